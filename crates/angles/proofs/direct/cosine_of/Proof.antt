@@ -1,0 +1,48 @@
+-- `angles::direct::cosine_of` meets its contract: each bracket is the definition's, with the divisor as a float. Assumes nothing.
+use borrow.Author.Needs.{needs}
+use Rattle.angles.specs.SinCos.{bracket, cosine}
+use Rattle.angles.proofs.Wholes.{cosine-divisors}
+use Rattle.angles.proofs.direct.cosine_of.Statement.{statement}
+use Rattle.angles.proofs.direct.cosine_of.Tie as tie
+
+innermost-requires : tie.Need-innermost-requires
+innermost-requires c κs = search needs
+
+bracket-requires : tie.Need-bracket-requires
+bracket-requires c κs = search needs
+
+bracket-requires-2 : tie.Need-bracket-requires-2
+bracket-requires-2 c κs = search needs
+
+bracket-requires-3 : tie.Need-bracket-requires-3
+bracket-requires-3 c κs = search needs
+
+bracket-requires-4 : tie.Need-bracket-requires-4
+bracket-requires-4 c κs = search needs
+
+bracket-requires-5 : tie.Need-bracket-requires-5
+bracket-requires-5 c κs = search needs
+
+bracket-requires-6 : tie.Need-bracket-requires-6
+bracket-requires-6 c κs = search needs
+
+bracket-requires-7 : tie.Need-bracket-requires-7
+bracket-requires-7 c κs = search needs
+
+returns : tie.Need-returns
+unfolding cosine bracket
+returns c = let divisors = cosine-divisors in cc
+
+pub cosine-of-spec : {M : Type 1} → statement M
+cosine-of-spec =
+    tie.close
+    (tie.spec
+    innermost-requires
+    bracket-requires
+    bracket-requires-2
+    bracket-requires-3
+    bracket-requires-4
+    bracket-requires-5
+    bracket-requires-6
+    bracket-requires-7
+    returns)

@@ -1,0 +1,47 @@
+-- The theorems on rounding, as statements; `proofs/Theorems.antt` proves each under the same name in small letters. Definitions only.
+-- `RootedUnder` and `RootedOver` say how the root of m * 2 ^ e, in units of f, compares with halves of a unit, and `ExactUnder` and `ExactOver` how
+-- m * 2 ^ e itself does (`Under`, `Over` of Rounded.antt). Assumes nothing.
+use mathlib.Core.Path.{_≡_}
+use mathlib.Core.Bool.{Bool, false}
+use Prim.Native.Nat.{ℕ, suc, _*_, _^_, _≤_}
+use lib.Dec.{T}
+use lib.IntN.{ℤ}
+use lib.Ieee.{Float, fin, Format, binary32, low, up, down, fits}
+use Rattle.rounding.specs.Root.{root}
+use Rattle.rounding.specs.Narrow.{narrowed}
+use Rattle.rounding.specs.Rounded.{Rounded, RoundedFloat, FractionUnder, FractionOver, RootUnder, RootOver}
+
+abbrev pub RootedUnder : Format → ℕ → ℤ → ℕ → Type 0
+RootedUnder f m e = RootUnder (m * up e * 4 ^ low f) (down e)
+
+abbrev pub RootedOver : Format → ℕ → ℤ → ℕ → Type 0
+RootedOver f m e = RootOver (m * up e * 4 ^ low f) (down e)
+
+abbrev pub ExactUnder : Format → ℕ → ℤ → ℕ → Type 0
+ExactUnder f m e = FractionUnder (m * up e * 2 ^ low f) (down e)
+
+abbrev pub ExactOver : Format → ℕ → ℤ → ℕ → Type 0
+ExactOver f m e = FractionOver (m * up e * 2 ^ low f) (down e)
+
+-- The root of a finite number above zero is rounded to nearest, ties to even, in either format: over units, and over floats.
+abbrev pub RootRounded : Type 0
+RootRounded = (f : Format) (m : ℕ) (e : ℤ) → Rounded f (RootedUnder f (suc m) e) (RootedOver f (suc m) e) false (root f (fin false (suc m) e))
+
+abbrev pub RootRoundedFloat : Type 0
+RootRoundedFloat = (f : Format) (m : ℕ) (e : ℤ) → RoundedFloat f (RootedUnder f (suc m) e) (RootedOver f (suc m) e) false (root f (fin false (suc m) e))
+
+-- Narrowing rounds any finite number to nearest, ties to even, in f32.
+abbrev pub NarrowRounded : Type 0
+NarrowRounded = (s : Bool) (m : ℕ) (e : ℤ) → Rounded binary32 (ExactUnder binary32 m e) (ExactOver binary32 m e) s (narrowed (fin s m e))
+
+abbrev pub NarrowRoundedFloat : Type 0
+NarrowRoundedFloat = (s : Bool) (m : ℕ) (e : ℤ) → RoundedFloat binary32 (ExactUnder binary32 m e) (ExactOver binary32 m e) s (narrowed (fin s m e))
+
+-- `Rounded` determines the float, of any y whatever: two floats that fit and are both y rounded are the same. So does `RoundedFloat`.
+abbrev pub RoundedUnique : Type 1
+RoundedUnique = (f : Format) (Under Over : ℕ → Type 0) → ((s t : ℕ) → Under t → Over s → t ≤ s) → (s : Bool) (r v : Float) →
+    T (fits f r) → T (fits f v) → Rounded f Under Over s r → Rounded f Under Over s v → r ≡ v
+
+abbrev pub RoundedFloatUnique : Type 1
+RoundedFloatUnique = (f : Format) (Under Over : ℕ → Type 0) → ((s t : ℕ) → Under t → Over s → t ≤ s) → (s : Bool) (r v : Float) →
+    RoundedFloat f Under Over s r → RoundedFloat f Under Over s v → r ≡ v
