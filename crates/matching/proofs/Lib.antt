@@ -1,0 +1,10 @@
+pub mod Fronts
+pub mod Laying
+pub mod Runs
+pub mod Passes
+pub mod Pushing
+pub mod Marks
+pub mod Merging
+pub mod Whole
+pub mod Floats
+pub mod Theorems

@@ -1,0 +1,5 @@
+pub mod Pairs
+pub mod Merge
+pub mod Greedy
+pub mod Ordered
+pub mod Layout

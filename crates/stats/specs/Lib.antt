@@ -1,0 +1,3 @@
+pub mod Median
+pub mod Rank
+pub mod Selection
