@@ -1,24 +1,93 @@
 -- 01, "Cases, the starred ones proved": one theorem, whose rows the checker computes from the written meanings. Assumes nothing.
 use mathlib.Core.Path.{_≡_, refl}
-use mathlib.Core.Bool.{true, false}
+use mathlib.Core.Bool.{Bool, true, false, cond}
+use mathlib.Core.List.{List, [], _∷_, map}
+use Prim.Native.Nat.{ℕ}
 use lib.IntN.{pos, negsuc}
-use lib.Ieee.{nan, fin, binary64, toBits, ofBits}
-use Rattle.rounding.specs.Arith.{f64}
-use Rattle.rounding.specs.Root.{root}
+use lib.Count.{trailingZeros}
+use lib.Ieee.{Float, nan, inf, fin, binary32, binary64, add, sub, mul, div, neg, lt, le, eq, isNan, round, sum, units, odd, size, span, climb, ofFields, ofBits, toBits, ofInt, fits}
+use Rattle.rounding.specs.Arith.{f64, f32, zero64, one64, _⊗_}
+use Rattle.rounding.specs.Root.{root, rootOf, place, wholeRoot, rootDigits}
 use Rattle.rounding.specs.Narrow.{narrowed}
+use Rattle.rounding.specs.Methods.{absF, isFinite, totalKey, totalLe}
+use Rattle.stats.specs.Median.{medianMadSigma, middle, sorted, insert, deviations, madScale}
+use Rattle.stats.specs.declared.MedianSigma.{MedianSigma}
+use Rattle.matching.specs.Pairs.{pairs, pairsFrom, pairsOf, within, squared, pointAt}
+use Rattle.matching.specs.Merge.{merged, mergeRuns, mergeNeighbours, merge, into, singles, notAfter}
+use Rattle.matching.specs.Greedy.{matchesOf, assigned, clashes, Match}
+use Rattle.fit.specs.Solve.{solve3x3, solvedFrom, substituted, divides, ifFinite, solutionX, solutionY, solutionZ, eliminated, reduced, minusFrom, swapped, usable, pivotOf, bestFrom, better, beside}
+use Rattle.fit.specs.Residual.{madClipMatches, kept, keptFrom, keeps, thresholdOf, Clipped}
+use Rattle.fit.specs.declared.Solution.{Solution}
+use Rattle.fit.specs.declared.Solution.the-variants.{Solved, Failed}
+use Rattle.fit.specs.declared.Clip.{Clip}
+use Rattle.fit.specs.declared.Clip.the-variants.{Kept, Unchanged}
+
+-- whole numbers as floats
+abbrev f1 : Float
+f1 = one64
+
+abbrev f2 : Float
+f2 = f64 0x4000000000000000
+
+abbrev f3 : Float
+f3 = f64 0x4008000000000000
+
+abbrev f4 : Float
+f4 = f64 0x4010000000000000
+
+abbrev f5 : Float
+f5 = f64 0x4014000000000000
+
+abbrev f6 : Float
+f6 = f64 0x4018000000000000
+
+abbrev f10 : Float
+f10 = f64 0x4024000000000000
+
+-- the identity matrix with d for its first diagonal entry
+abbrev diagonal : Float → List (List Float)
+diagonal d = (d ∷ zero64 ∷ zero64 ∷ []) ∷ (zero64 ∷ f1 ∷ zero64 ∷ []) ∷ (zero64 ∷ zero64 ∷ f1 ∷ []) ∷ []
+
+abbrev side : List Float
+side = f1 ∷ f2 ∷ f3 ∷ []
+
+-- six residuals with an outlier, six without, and six matches
+abbrev outlier : List Float
+outlier = f1 ∷ f1 ∷ f1 ∷ f1 ∷ f1 ∷ f10 ∷ []
+
+abbrev rising : List Float
+rising = f1 ∷ f2 ∷ f3 ∷ f4 ∷ f5 ∷ f6 ∷ []
+
+abbrev six : List ℕ
+six = 0 ∷ 10 ∷ 1 ∷ 11 ∷ 2 ∷ 12 ∷ 3 ∷ 13 ∷ 4 ∷ 14 ∷ 5 ∷ 15 ∷ []
+
+abbrev clipped : List Float → Clipped
+clipped rs = madClipMatches rs six (medianMadSigma rs .median) (medianMadSigma rs .sigma)
 
 pub record Cases : Type 0 where
   -- "Root of 2 is 3FF6A09E667F3BCD, of −0 is −0, of 2^-1074 is 2^-537; of −1, NaN."
-  pub root-of-2 : toBits binary64 (root binary64 (f64 0x4000000000000000)) ≡ 0x3FF6A09E667F3BCD
+  pub root-of-2 : toBits binary64 (root binary64 f2) ≡ 0x3FF6A09E667F3BCD
   pub root-of-minus-0 : root binary64 (fin true 0 (pos 0)) ≡ fin true 0 (pos 0)
   pub root-of-least : root binary64 (fin false 1 (negsuc 1073)) ≡ fin false 1 (negsuc 536)
   pub root-of-minus-1 : root binary64 (fin true 1 (pos 0)) ≡ nan
   -- "1 + 2^-24 narrows to 1; 1 + 3 × 2^-24 to 1 + 2^-22."
   pub narrow-down : narrowed (fin false 16777217 (negsuc 23)) ≡ fin false 1 (pos 0)
   pub narrow-up : narrowed (fin false 16777219 (negsuc 23)) ≡ fin false 4194305 (negsuc 21)
+  -- "Identity system, right side 1, 2, 3: solution 1, 2, 3. First diagonal 1e-30 passes, 9.9e-31 fails."
+  pub identity : solve3x3 (diagonal f1) side ≡ Solved f1 f2 f3
+  pub least-pivot : solve3x3 (diagonal (f64 0x39B4484BFEEBC2A0)) side ≡ Solved (f64 0x46293E5939A08CE9) f2 f3
+  pub below-least : solve3x3 (diagonal (f64 0x39B4145FB7407151)) side ≡ Failed
+  -- "Residuals 1,1,1,1,1,10: median 1, sigma 0, five kept. 1 to 6: median 4, sigma 1.4826 × 2, no clip."
+  pub outlier-statistics : medianMadSigma outlier ≡ record { median = f1; sigma = zero64 }
+  pub outlier-clipped : clipped outlier ≡ record { answer = Kept 5; matches = six }
+  pub rising-statistics : medianMadSigma rising ≡ record { median = f4; sigma = madScale ⊗ f2 }
+  pub rising-kept : clipped rising ≡ record { answer = Unchanged; matches = six }
+  -- "Spots (0,0), (3,0), prediction (2,0), squared radius 4: spot 1 wins; with squared radius 0.5, nothing."
+  pub nearer-spot : matchesOf (zero64 ∷ zero64 ∷ f3 ∷ zero64 ∷ []) 2 (f2 ∷ zero64 ∷ []) f4 ≡ record { spot = 1; prediction = 0 } ∷ []
+  pub too-far : matchesOf (zero64 ∷ zero64 ∷ f3 ∷ zero64 ∷ []) 2 (f2 ∷ zero64 ∷ []) (f64 0x3FE0000000000000) ≡ []
 
 pub cases : Cases
-unfolding root narrowed toBits ofBits
+unfolding root rootOf place wholeRoot rootDigits narrowed units odd round size span climb sum add sub mul div neg lt le eq isNan ofFields ofBits toBits ofInt absF isFinite totalKey totalLe medianMadSigma middle sorted insert deviations pairs pairsFrom pairsOf within squared pointAt merged mergeRuns mergeNeighbours merge into singles notAfter matchesOf assigned clashes solve3x3 solvedFrom substituted divides ifFinite solutionX solutionY solutionZ eliminated reduced minusFrom swapped usable pivotOf bestFrom better beside madClipMatches kept keptFrom keeps thresholdOf
 cases = record {
   root-of-2 = refl;
   root-of-minus-0 = refl;
@@ -26,4 +95,13 @@ cases = record {
   root-of-minus-1 = refl;
   narrow-down = refl;
   narrow-up = refl;
+  identity = refl;
+  least-pivot = refl;
+  below-least = refl;
+  outlier-statistics = refl;
+  outlier-clipped = refl;
+  rising-statistics = refl;
+  rising-kept = refl;
+  nearer-spot = refl;
+  too-far = refl;
 }

@@ -1,0 +1,7 @@
+pub mod Trig
+pub mod Elimination
+pub mod Lookup
+pub mod Summing
+pub mod Distances
+pub mod Kept
+pub mod Gathered

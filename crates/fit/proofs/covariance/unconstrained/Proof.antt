@@ -1,0 +1,14 @@
+-- `fit::covariance::unconstrained` meets its contract: 1 / 0 is the infinity. Assumes nothing.
+use Rattle.fit.specs.Covariance.{unconstrained}
+use lib.Ieee.{div, ofBits}
+use mathlib.Core.Path.{refl}
+use borrow.Author.Needs.{needs}
+use Rattle.fit.proofs.covariance.unconstrained.Statement.{statement}
+use Rattle.fit.proofs.covariance.unconstrained.Tie as tie
+
+returns : tie.Need-returns
+unfolding unconstrained div ofBits
+returns c = refl
+
+pub unconstrained-spec : {M : Type 1} → statement M
+unconstrained-spec = tie.close (tie.spec returns)

@@ -1,0 +1,23 @@
+-- `fit::rows::single_at` meets its contract: past the end it is 0 / 0, the NaN. Assumes nothing.
+use mathlib.Core.Path.{sym}
+use borrow.Author.Needs.{needs}
+use lib.Ieee.{nan, div, ofBits}
+use lib.ListN.{List·getD-eq-default}
+use Rattle.fit.proofs.rows.single_at.Statement.{statement}
+use Rattle.fit.proofs.rows.single_at.Tie as tie
+
+mul-result : tie.Need-mul-result
+mul-result c = search needs
+
+shared-slice-read-result : tie.Need-shared-slice-read-result
+shared-slice-read-result c = search needs
+
+returns : tie.Need-returns
+returns c = search needs
+
+returns-2 : tie.Need-returns-2
+unfolding div ofBits
+returns-2 c = sym (List·getD-eq-default (c .before .args .s .now) nan (c .if1 .left))
+
+pub single-at-spec : {M : Type 1} → statement M
+single-at-spec = tie.close (tie.spec mul-result shared-slice-read-result returns returns-2)

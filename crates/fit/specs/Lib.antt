@@ -1,0 +1,9 @@
+pub mod Constants
+pub mod Vector
+pub mod Project
+pub mod Camera
+pub mod Solve
+pub mod Covariance
+pub mod Rows
+pub mod Normal
+pub mod Residual

@@ -1,0 +1,116 @@
+-- The normal equations: `accumulate_normal_equations`, `normal_matrix`, `ls_fit_once` (wcs_refine.rs). Definitions only. Assumes nothing.
+use Prim.Native.Nat.{ℕ, zero, suc, _+_}
+use mathlib.Core.Bool.{Bool, true, false, cond}
+use mathlib.Core.List.{List, [], _∷_}
+use lib.Dec.{ltb}
+use lib.Ieee.{Float, neg}
+use Rattle.rounding.specs.Arith.{_⊕_, _⊖_, _⊗_, zero64, one64}
+use Rattle.fit.specs.Vector.{at}
+use Rattle.fit.specs.Project.{predictTanplane}
+use Rattle.fit.specs.Camera.{tanProjectVec}
+use Rattle.fit.specs.Solve.{solve3x3}
+use Rattle.fit.specs.Rows.{Row, View}
+use Rattle.fit.specs.declared.Pose.{Pose}
+use Rattle.fit.specs.declared.Spot.{Spot}
+use Rattle.fit.specs.declared.Projected.{Projected}
+use Rattle.fit.specs.declared.Projected.the-variants.{At, Behind}
+use Rattle.fit.specs.declared.Plane.{Plane}
+use Rattle.fit.specs.declared.Sums.{Sums}
+use Rattle.fit.specs.declared.Counted.{Counted}
+use Rattle.fit.specs.declared.Solution.{Solution}
+use Rattle.fit.specs.declared.Solution.the-variants.{Solved, Failed}
+
+-- The derivatives by theta of the plane point of a spot.
+unfoldable pub xiTheta : Float → Float → Float → Float → Float → Float
+xiTheta px py cosT sinT ps = ps ⊗ (neg sinT ⊗ px ⊖ cosT ⊗ py)
+
+unfoldable pub etaTheta : Float → Float → Float → Float → Float → Float
+etaTheta px py cosT sinT ps = ps ⊗ (cosT ⊗ px ⊖ sinT ⊗ py)
+
+-- old + (a + b): what a match adds to one entry is one sum
+abbrev pub added : Float → Float → Float → Float → Float → Float
+added old a b c d = old ⊕ (a ⊗ b ⊕ c ⊗ d)
+
+-- a row of the matrix: jxi[i] * jxi[j] + jeta[i] * jeta[j] for each j
+unfoldable pub addedRow : List Float → Float → List Float → Float → List Float → List Float
+addedRow old a jxi c jeta =
+    added (at old 0) a (at jxi 0) c (at jeta 0)
+    ∷ added (at old 1) a (at jxi 1) c (at jeta 1)
+    ∷ added (at old 2) a (at jxi 2) c (at jeta 2)
+    ∷ []
+
+-- with the Jacobian's rows given
+unfoldable pub accumulatedBy : Sums → List Float → List Float → Float → Float → Sums
+unfolding addedRow
+accumulatedBy s jxi jeta rXi rEta = record {
+  ata0 = addedRow (s .ata0) (at jxi 0) jxi (at jeta 0) jeta;
+  ata1 = addedRow (s .ata1) (at jxi 1) jxi (at jeta 1) jeta;
+  ata2 = addedRow (s .ata2) (at jxi 2) jxi (at jeta 2) jeta;
+  atb =
+      added (at (s .atb) 0) (at jxi 0) rXi (at jeta 0) rEta
+      ∷ added (at (s .atb) 1) (at jxi 1) rXi (at jeta 1) rEta
+      ∷ added (at (s .atb) 2) (at jxi 2) rXi (at jeta 2) rEta
+      ∷ [];
+}
+
+-- accumulate_normal_equations: the rows are [dxi/dtheta, 1, 0] and [deta/dtheta, 0, 1]
+unfoldable pub accumulateNormalEquations : Sums → Float → Float → Float → Float → Float → Float → Float → Sums
+unfolding accumulatedBy xiTheta etaTheta
+accumulateNormalEquations s px py cosT sinT ps rXi rEta =
+    accumulatedBy s
+    (xiTheta px py cosT sinT ps ∷ one64 ∷ zero64 ∷ [])
+    (etaTheta px py cosT sinT ps ∷ zero64 ∷ one64 ∷ [])
+    rXi rEta
+
+-- Sums over no match, and how many matches they are over.
+unfoldable pub noSums : Sums
+noSums =
+    let z = zero64 ∷ zero64 ∷ zero64 ∷ [] in
+    record { ata0 = z; ata1 = z; ata2 = z; atb = z }
+
+unfoldable pub noMatches : Counted
+unfolding noSums
+noMatches = record { sums = noSums; n = 0 }
+
+-- The right side that a match in front of the plane brings: what is left to the direction's plane point in `ls_fit_once`, nothing in `normal_matrix`.
+unfoldable pub rightSide : Bool → View → Spot → Float → Float → Plane
+unfolding predictTanplane
+rightSide false w c xi eta = record { xi = zero64; eta = zero64 }
+rightSide true w c xi eta =
+    let p = predictTanplane (c .px) (c .py) (w .cosT) (w .sinT) (w .ps) in
+    record { xi = xi ⊖ p .xi; eta = eta ⊖ p .eta }
+
+-- A match in front of the plane adds to the sums and is counted; one behind is passed over.
+unfoldable pub withMatch : Bool → View → Counted → Spot → Projected → Counted
+unfolding accumulateNormalEquations rightSide
+withMatch fitting w t c Behind = t
+withMatch fitting w t c (At xi eta) =
+    let r = rightSide fitting w c xi eta in
+    record {
+      sums = accumulateNormalEquations (t .sums) (c .px) (c .py) (w .cosT) (w .sinT) (w .ps) (r .xi) (r .eta);
+      n = t .n + 1;
+    }
+
+unfoldable pub withRow : Bool → View → Counted → Row → Counted
+unfolding withMatch tanProjectVec
+withRow fitting w t r = withMatch fitting w t (r .spot) (tanProjectVec (w .cut) (r .direction) (w .basis))
+
+-- over the matches from the left
+unfoldable pub withRows : Bool → View → Counted → List Row → Counted
+unfolding withRow
+withRows fitting w t [] = t
+withRows fitting w t (r ∷ rs) = withRows fitting w (withRow fitting w t r) rs
+
+-- normal_matrix: JᵀJ over the matches in front of the plane, and their number
+unfoldable pub normalMatrix : View → List Row → Counted
+unfolding withRows noMatches
+normalMatrix w rs = withRows false w noMatches rs
+
+-- ls_fit_once: fewer than 3 matches in front of the plane do not determine a solution
+unfoldable pub solvedSums : Counted → Solution
+unfolding solve3x3
+solvedSums t = cond (ltb (t .n) 3) Failed (solve3x3 (t .sums .ata0 ∷ t .sums .ata1 ∷ t .sums .ata2 ∷ []) (t .sums .atb))
+
+unfoldable pub lsFitOnce : View → List Row → Solution
+unfolding solvedSums withRows noMatches
+lsFitOnce w rs = solvedSums (withRows true w noMatches rs)
