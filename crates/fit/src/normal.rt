@@ -123,6 +123,7 @@ fn with_row(
     Counted { sums, n: s.n + 1 }
 }
 
+// Before the first match.
 fn no_matches() -> Counted
     ensures { λ r. ⌜ r ≡ noMatches ⌝ }
 {

@@ -60,6 +60,7 @@ fn put(l: &mut [f64], i: usize, x: f64)
     }
 }
 
+// The residuals of all matches, with the basis and the turn given.
 fn residuals(
     matches: &[usize],
     directions: &[f32],

@@ -2,7 +2,6 @@
 use Rattle.fit.specs.Covariance.{unconstrained}
 use lib.Ieee.{div, ofBits}
 use mathlib.Core.Path.{refl}
-use borrow.Author.Needs.{needs}
 use Rattle.fit.proofs.covariance.unconstrained.Statement.{statement}
 use Rattle.fit.proofs.covariance.unconstrained.Tie as tie
 

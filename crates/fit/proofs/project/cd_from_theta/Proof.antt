@@ -1,6 +1,5 @@
 -- `fit::project::cd_from_theta` meets its contract: the mirror picks the definition's case. Assumes nothing.
 use Rattle.fit.specs.Project.{cdFromTheta}
-use Rattle.angles.specs.SinCos.{sin, cos}
 use borrow.Author.Needs.{needs}
 use Rattle.fit.proofs.project.cd_from_theta.Statement.{statement}
 use Rattle.fit.proofs.project.cd_from_theta.Tie as tie

@@ -1,6 +1,5 @@
 -- `fit::project::divided` meets its contract: the test picks the definition's case. Assumes nothing.
 use Rattle.fit.specs.Project.{divided}
-use borrow.Author.Needs.{needs}
 use Rattle.fit.proofs.project.divided.Statement.{statement}
 use Rattle.fit.proofs.project.divided.Tie as tie
 

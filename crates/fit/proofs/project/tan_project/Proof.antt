@@ -1,6 +1,5 @@
 -- `fit::project::tan_project` meets its contract: the sines and cosines are those of `sin_cos`, and PLANE_CUT has the definition's bits. Assumes nothing.
 use Rattle.fit.specs.Project.{tanProject}
-use Rattle.angles.specs.SinCos.{sin, cos}
 use borrow.Author.Needs.{needs}
 use Rattle.fit.proofs.project.tan_project.Statement.{statement}
 use Rattle.fit.proofs.project.tan_project.Tie as tie

@@ -1,7 +1,7 @@
 -- `fit::solve::pivot_of` meets its contract. The invariant: the best from the row i on, beginning with p, is the pivot, and p is one of the rows. Assumes nothing.
 use Rattle.fit.specs.Solve.{better, bestFrom, pivotOf}
 use Rattle.fit.proofs.Elimination.{best-start, best-next, best-done, better-row}
-use mathlib.Core.Path.{_≡_, sym, ap, _∙_}
+use mathlib.Core.Path.{_≡_, sym, _∙_}
 use Prim.Native.Nat.{_-_, _<_, _≤_}
 use native.Mathlib.Omega.{arith}
 use native.Mathlib.Numerals.{add-one}

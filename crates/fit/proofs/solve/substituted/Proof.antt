@@ -1,5 +1,5 @@
 -- `fit::solve::substituted` meets its contract: the tests pick the definition's case. Assumes nothing.
-use Rattle.fit.specs.Solve.{substituted, solutionX, solutionY, solutionZ}
+use Rattle.fit.specs.Solve.{substituted}
 use borrow.Author.Needs.{needs}
 use Rattle.fit.proofs.solve.substituted.Statement.{statement}
 use Rattle.fit.proofs.solve.substituted.Tie as tie
