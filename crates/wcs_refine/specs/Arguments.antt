@@ -1,0 +1,50 @@
+-- The arguments of a refinement call. Definitions only. Assumes nothing.
+use Prim.Native.Nat.{ℕ, _+_, _*_, _/_, min, max}
+use mathlib.Core.Bool.{Bool}
+use mathlib.Core.List.{List}
+use lib.ListN.{length}
+use lib.Ieee.{Float}
+
+-- The lists that a call may write to.
+pub record Lent : Type 0 where
+  pub numbers : List ℕ
+  pub floats : List Float
+  pub distances : List Float
+  pub indices : List ℕ
+  pub result : List ℕ
+
+-- Everything but spots and directions.
+pub record Given : Type 0 where
+  pub matches : List ℕ
+  pub rotation : List (List Float)
+  pub scale : Float
+  pub mirror : Bool
+  pub radius : Float
+  pub limit : ℕ
+  pub rounds : ℕ
+  pub lent : Lent
+
+-- Flat lists: a spot is two numbers, a match a spot and a direction, a direction three components.
+pub record Call : Type 0 where
+  pub spots : List Float
+  pub directions : List Float
+  pub given : Given
+
+abbrev pub spotCount : Call → ℕ
+spotCount c = length (c .spots) / 2
+
+abbrev pub matchCount : Call → ℕ
+matchCount c = length (c .given .matches) / 2
+
+abbrev pub directionCount : Call → ℕ
+directionCount c = length (c .directions) / 3
+
+-- 01, refusal 11: the places that a working list, and the result list, must have.
+abbrev pub total : Call → ℕ
+total c = spotCount c + matchCount c + directionCount c
+
+abbrev pub workPlaces : Call → ℕ
+workPlaces c = 16 * total c
+
+abbrev pub resultPlaces : Call → ℕ
+resultPlaces c = 2 * max (matchCount c) (min (spotCount c) (c .given .limit))

@@ -1,0 +1,69 @@
+-- The second half of Phase D: the matcher on the predictions, and whether its matches are new. Definitions only. Assumes nothing.
+use Prim.Native.Nat.{ℕ, zero, suc, _/_}
+use mathlib.Core.Bool.{Bool, true, false, cond, _&&_, _||_}
+use mathlib.Core.List.{List, [], _∷_}
+use lib.Dec.{leb, ltb, eqb}
+use lib.Ieee.{Float}
+use Rattle.rounding.specs.Arith.{_⊗_, _⊘_, f64}
+use Rattle.rounding.specs.Methods.{maxF, minF}
+use Rattle.matching.specs.Greedy.{Match}
+use Rattle.wcs_refine.specs.Fixed.{Fixed, radiusPx}
+use Rattle.wcs_refine.specs.Fit.{Statistics, none, some}
+use Rattle.wcs_refine.specs.Query.{Prediction}
+
+-- adaptive_radius_px: (5 σ / ps).max(2.5).min(radius_px), or radius_px without statistics
+unfoldable pub adaptivePx : Fixed → Statistics → Float
+unfolding maxF minF radiusPx
+adaptivePx k none = radiusPx k
+adaptivePx k (some t) = minF (maxF (f64 0x4014000000000000 ⊗ t .sigma ⊘ k .scale) (f64 0x4004000000000000)) (radiusPx k)
+
+-- The predictions as the matcher reads them: x then y.
+unfoldable pub laid : List Prediction → List Float
+laid [] = []
+laid (q ∷ qs) = q .x ∷ q .y ∷ laid qs
+
+-- The direction of the prediction at a place; 0 past the end.
+unfoldable pub directionOf : List Prediction → ℕ → ℕ
+directionOf [] n = 0
+directionOf (q ∷ qs) zero = q .direction
+directionOf (q ∷ qs) (suc n) = directionOf qs n
+
+-- Matches laid flat, spot then direction.
+unfoldable pub renamed : List Prediction → List Match → List ℕ
+unfolding directionOf
+renamed qs [] = []
+renamed qs (m ∷ ms) = m .spot ∷ directionOf qs (m .prediction) ∷ renamed qs ms
+
+-- ---- `sorted_new != sorted_cur`
+
+pub record Link : Type 0 where
+  pub spot : ℕ
+  pub direction : ℕ
+
+unfoldable pub links : List ℕ → List Link
+links [] = []
+links (s ∷ []) = []
+links (s ∷ d ∷ ms) = record { spot = s; direction = d } ∷ links ms
+
+unfoldable pub linkLe : Link → Link → Bool
+linkLe a b = ltb (a .spot) (b .spot) || (eqb (a .spot) (b .spot) && leb (a .direction) (b .direction))
+
+unfoldable pub insertLink : Link → List Link → List Link
+unfolding linkLe
+insertLink a [] = a ∷ []
+insertLink a (b ∷ l) = cond (linkLe a b) (a ∷ b ∷ l) (b ∷ insertLink a l)
+
+unfoldable pub sortedLinks : List Link → List Link
+unfolding insertLink
+sortedLinks [] = []
+sortedLinks (a ∷ l) = insertLink a (sortedLinks l)
+
+unfoldable pub sameLinks : List Link → List Link → Bool
+sameLinks [] [] = true
+sameLinks [] (b ∷ l) = false
+sameLinks (a ∷ k) [] = false
+sameLinks (a ∷ k) (b ∷ l) = eqb (a .spot) (b .spot) && eqb (a .direction) (b .direction) && sameLinks k l
+
+unfoldable pub sameMatches : List ℕ → List ℕ → Bool
+unfolding links sortedLinks sameLinks
+sameMatches new old = sameLinks (sortedLinks (links new)) (sortedLinks (links old))

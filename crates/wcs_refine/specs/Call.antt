@@ -1,0 +1,82 @@
+-- The whole of a refinement call: checks, run, closing, and what every lent list holds afterwards. Definitions only. Assumes nothing.
+use Prim.Native.Nat.{ℕ, zero, suc}
+use mathlib.Core.Bool.{cond}
+use mathlib.Core.List.{List, [], _++_}
+use lib.Dec.{leb}
+use lib.ListN.{length, drop, replicate}
+use lib.Ieee.{Float}
+use Rattle.rounding.specs.Arith.{zero64}
+use Rattle.fit.specs.Rows.{rows}
+use Rattle.wcs_refine.specs.Arguments.{Call, Given, Lent}
+use Rattle.wcs_refine.specs.Check.{refusal}
+use Rattle.wcs_refine.specs.Fixed.{Fixed, fixed, startPose}
+use Rattle.wcs_refine.specs.Query.{empty}
+use Rattle.wcs_refine.specs.Round.{State, Ending, refused, ended, Run, loop}
+use Rattle.wcs_refine.specs.Closing.{Closed, unsound, fine, cleaned, Report, reported}
+
+-- A refusal's number, or the report with rounds, fit passes and queries.
+pub data Answer : Type 0 where
+  no : ℕ → Answer
+  ok : Report → ℕ → ℕ → ℕ → Answer
+
+unfoldable pub start : Given → State
+unfolding startPose
+start g = record { pose = startPose g; matches = g .matches; cache = empty }
+
+-- The run of a call that passes the checks.
+unfoldable pub runOf : Call → Run
+unfolding loop fixed start
+runOf c = loop (fixed c) (c .spots) (c .directions) (c .given .rounds) (start (c .given))
+
+-- "The queries of a call are those that this run makes on its arguments before its end or refusal; refused before the run, it makes none."
+abbrev pub queriesAfter : Call → ℕ → List (List ℕ)
+queriesAfter c zero = runOf c .queries
+queriesAfter c (suc n) = []
+
+unfoldable pub queries : Call → List (List ℕ)
+unfolding runOf refusal
+queries c = queriesAfter c (refusal c)
+
+unfoldable pub closed : Call → Closed → Run → Answer
+unfolding reported rows fixed
+closed c unsound r = no 12
+closed c (fine p ms) r = ok (reported (fixed c) p ms (rows (c .spots) (c .directions) ms)) (r .rounds) (r .passes) (length (r .queries))
+
+unfoldable pub finished : Call → Ending → Run → Answer
+unfolding closed cleaned fixed
+finished c (refused n) r = no n
+finished c (ended s) r = closed c (cleaned (fixed c) (c .spots) (c .directions) 3 (s .pose) (s .matches)) r
+
+abbrev pub answerAfter : Call → ℕ → Answer
+answerAfter c zero = finished c (runOf c .ending) (runOf c)
+answerAfter c (suc n) = no (suc n)
+
+unfoldable pub answer : Call → Answer
+unfolding runOf refusal finished
+answer c = answerAfter c (refusal c)
+
+-- ---- the lent lists afterwards
+
+unfoldable pub cleared : List ℕ → Lent → Lent
+cleared result l = record {
+  numbers = replicate (length (l .numbers)) 0;
+  floats = replicate (length (l .floats)) zero64;
+  distances = replicate (length (l .distances)) zero64;
+  indices = replicate (length (l .indices)) 0;
+  result = result;
+}
+
+-- "1 to 11 leave all lent lists as they came. 12 and 13 leave the result list as it came and the working and candidate lists all zero."
+-- "Accepted: the result list starts with the matches, spot then direction, and is unchanged after them; working and candidate lists are all zero."
+unfoldable pub left : Lent → Answer → Lent
+unfolding cleared
+left l (no n) = cond (leb n 11) l (cleared (l .result) l)
+left l (ok r rounds passes queries) = cleared (r .matches ++ drop (length (r .matches)) (l .result)) l
+
+pub record Outcome : Type 0 where
+  pub answer : Answer
+  pub lent : Lent
+
+unfoldable pub outcome : Call → Outcome
+unfolding answer left
+outcome c = record { answer = answer c; lent = left (c .given .lent) (answer c) }

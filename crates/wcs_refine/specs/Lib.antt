@@ -1,0 +1,13 @@
+pub mod Arguments
+pub mod Check
+pub mod Fixed
+pub mod Fit
+pub mod Query
+pub mod Associate
+pub mod Round
+pub mod Closing
+pub mod Call
+pub mod Unseen
+pub mod Entry
+pub mod Passing
+pub mod Listing

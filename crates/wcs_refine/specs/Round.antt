@@ -1,0 +1,123 @@
+-- One round of `wcs_refine`'s outer loop, on any state, and the loop. Definitions only. Assumes nothing.
+use Prim.Native.Nat.{ℕ, zero, suc, _+_, _/_}
+use mathlib.Core.Bool.{Bool, true, false, cond, not, _&&_}
+use mathlib.Core.List.{List, [], _∷_, _++_}
+use lib.Dec.{leb, ltb}
+use lib.ListN.{length}
+use lib.Ieee.{Float}
+use Rattle.rounding.specs.Arith.{_⊗_}
+use Rattle.matching.specs.Pairs.{pairs}
+use Rattle.matching.specs.Greedy.{matchesOf}
+use Rattle.fit.specs.Camera.{boresight, cameraRows}
+use Rattle.fit.specs.Rows.{Row, rows, viewOf}
+use Rattle.fit.specs.Residual.{residuals}
+use Rattle.fit.specs.declared.Pose.{Pose}
+use Rattle.wcs_refine.specs.Fixed.{Fixed}
+use Rattle.wcs_refine.specs.Fit.{Passes, fitPasses, Statistics, statistics, clipped}
+use Rattle.wcs_refine.specs.Query.{Cache, empty, full, query, drifted, Prediction, predictions, pruned}
+use Rattle.wcs_refine.specs.Associate.{adaptivePx, laid, renamed, sameMatches}
+
+-- What a round starts from and leaves: the pose, the matches, flat, and the cached query.
+pub record State : Type 0 where
+  pub pose : Pose
+  pub matches : List ℕ
+  pub cache : Cache
+
+-- The run goes on, has converged, or meets refusal 12 or 13.
+pub data Next : Type 0 where
+  go : State → Next
+  done : State → Next
+  refuse : ℕ → Next
+
+-- What the search of a round comes to, and the queries that it made, each with the directions it lists.
+pub record Found : Type 0 where
+  pub next : Next
+  pub queries : List (List ℕ)
+
+pub record Round : Type 0 where
+  pub found : Found
+  pub passes : ℕ
+
+-- "reaching here means re-association produced no change": at least 4 new matches that differ from the present ones take their place.
+unfoldable pub settled : Pose → List ℕ → Cache → List ℕ → Next
+unfolding sameMatches
+settled p ms c new =
+    cond (leb 4 (length new / 2) && not (sameMatches new ms))
+    (go (record { pose = p; matches = new; cache = c }))
+    (done (record { pose = p; matches = ms; cache = c }))
+
+-- The matcher, with 01's refusal 13 where it finds more pairs than the candidate lists hold.
+unfoldable pub associated : Fixed → List Float → Pose → List ℕ → Cache → Float → List Prediction → Next
+unfolding settled renamed laid pairs matchesOf
+associated k spots p ms c r qs =
+    cond (ltb (k .capacity) (length (pairs spots (k .limit) (laid qs) (r ⊗ r)))) (refuse 13)
+    (settled p ms c (renamed qs (matchesOf spots (k .limit) (laid qs) (r ⊗ r))))
+
+-- With a fresh query: it is counted, and what lies beyond keep_r is not cached.
+unfoldable pub fresh : Fixed → List Float → List Float → Pose → List ℕ → Float → List ℕ → Found
+unfolding associated predictions pruned cameraRows boresight
+fresh k spots directions p ms r listed =
+    let rows = cameraRows (p .theta) (p .ra) (p .dec) in
+    record {
+      next = associated k spots p ms (full (boresight (p .ra) (p .dec)) (p .theta) (pruned k directions rows listed)) r (predictions k directions rows listed);
+      queries = listed ∷ [];
+    }
+
+-- With the cached one, if the pose has not drifted from it.
+unfoldable pub reused : Fixed → List Float → List Float → Pose → List ℕ → Float → List Float → Float → List ℕ → Bool → Found
+unfolding fresh associated predictions query cameraRows
+reused k spots directions p ms r b theta listed true = fresh k spots directions p ms r (query k directions p)
+reused k spots directions p ms r b theta listed false = record {
+  next = associated k spots p ms (full b theta listed) r (predictions k directions (cameraRows (p .theta) (p .ra) (p .dec)) listed);
+  queries = [];
+}
+
+unfoldable pub searched : Fixed → List Float → List Float → Pose → List ℕ → Float → Cache → Found
+unfolding fresh reused query drifted
+searched k spots directions p ms r empty = fresh k spots directions p ms r (query k directions p)
+searched k spots directions p ms r (full b theta listed) = reused k spots directions p ms r b theta listed (drifted k p b theta)
+
+-- Phases B to D, at the pose that the passes left.
+unfoldable pub rest : Fixed → List Float → List Float → Pose → List ℕ → Cache → List Float → Found
+unfolding searched statistics clipped adaptivePx
+rest k spots directions p ms c rs =
+    let t = statistics rs in
+    searched k spots directions p (clipped rs t ms) (adaptivePx k t) c
+
+unfoldable pub fitted : Fixed → List Float → List Float → State → List Row → Passes → Round
+unfolding rest residuals viewOf
+fitted k spots directions s rs f = record {
+  found = cond (f .fine) (rest k spots directions (f .pose) (s .matches) (s .cache) (residuals (viewOf (f .pose) (k .cut)) rs)) (record { next = refuse 12; queries = [] });
+  passes = f .passes;
+}
+
+unfoldable pub round : Fixed → List Float → List Float → State → Round
+unfolding fitted fitPasses rows
+round k spots directions s =
+    let rs = rows spots directions (s .matches) in
+    fitted k spots directions s rs (fitPasses 10 (k .cut) rs (s .pose))
+
+-- ---- the loop
+
+pub data Ending : Type 0 where
+  refused : ℕ → Ending
+  ended : State → Ending
+
+-- How the loop ended, after how many rounds and passes, and every query on the way.
+pub record Run : Type 0 where
+  pub ending : Ending
+  pub rounds : ℕ
+  pub passes : ℕ
+  pub queries : List (List ℕ)
+
+unfoldable pub carry : ℕ → List (List ℕ) → Next → (State → Run) → Run
+carry n qs (go s) f = let r = f s in record { ending = r .ending; rounds = suc (r .rounds); passes = n + r .passes; queries = qs ++ r .queries }
+carry n qs (done s) f = record { ending = ended s; rounds = 1; passes = n; queries = qs }
+carry n qs (refuse x) f = record { ending = refused x; rounds = 1; passes = n; queries = qs }
+
+unfoldable pub loop : Fixed → List Float → List Float → ℕ → State → Run
+unfolding carry round
+loop k spots directions zero s = record { ending = ended s; rounds = 0; passes = 0; queries = [] }
+loop k spots directions (suc n) s =
+    let r = round k spots directions s in
+    carry (r .passes) (r .found .queries) (r .found .next) (λ t. loop k spots directions n t)
