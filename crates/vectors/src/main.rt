@@ -2,40 +2,48 @@
 //
 // A line of a file is a function's name, its arguments, `=`, and the expected answer, all numbers in hexadecimal and floats by their bits;
 // a line that starts with # is a remark. Each file's first lines say how it was made.
-mod angle;
+mod fitting;
+mod geometry;
 mod line;
-mod rounding_call;
+mod list;
+mod matrices;
+mod pairing;
+mod sampling;
+mod scalar;
 mod word;
 
 use libc::STDOUT_FILENO;
-use line::Verdict;
-
-// How many lines of a file came out as expected, and how many did not.
-struct Tally {
-    same: u64,
-    other: u64,
-}
 
 fn main() {
-    run_file(b"sqrt64.txt");
-    run_file(b"sqrt32.txt");
-    run_file(b"narrow.txt");
-    run_file(b"widen.txt");
-    run_file(b"methods.txt");
-    run_file(b"sin.txt");
-    run_file(b"cos.txt");
-    run_file(b"cos32.txt");
-    run_file(b"atan.txt");
-    run_file(b"asin.txt");
-    run_file(b"atan2.txt");
+    each_file(b"sqrt64.txt sqrt32.txt narrow.txt widen.txt methods.txt");
+    each_file(b"sin.txt cos.txt cos32.txt atan.txt asin.txt atan2.txt");
+    each_file(b"medians.txt matches.txt capacity.txt");
+    each_file(b"tan_project.txt inverse_tan_project.txt rotations.txt wcs_to_rotation.txt");
+    each_file(b"vectors.txt solve_3x3.txt covariance.txt");
+    each_file(b"accumulate.txt fits.txt residuals.txt clips.txt");
+}
+
+// The files whose names these are, with spaces between them.
+fn each_file(names: &[u8]) {
+    let mut from = 0;
+    while from < names.len() {
+        let to = word::end(names, from, 32);
+        run_file(&names[from..to]);
+        from = to + 1;
+    }
+}
+
+pub(crate) fn say(text: &[u8]) {
+    io::write_all(STDOUT_FILENO, text);
 }
 
 // One file, whole: it has to be shorter than the room for it.
 fn run_file(path: &[u8]) {
-    io::write_all(STDOUT_FILENO, path);
+    say(path);
+    say(b": ");
     let fd = os::open_read(path);
     if fd < 0 {
-        io::write_all(STDOUT_FILENO, b": not to be opened\n");
+        say(b"not to be opened\n");
         return;
     }
     let mut room = io::large_buffer();
@@ -46,55 +54,36 @@ fn run_file(path: &[u8]) {
 fn run_open(fd: i32, text: &mut [u8]) {
     let n = io::read_full(fd, text);
     if n == text.len() {
-        io::write_all(STDOUT_FILENO, b": too long\n");
+        say(b"too long\n");
         return;
     }
-    io::write_all(STDOUT_FILENO, b": ");
-    report(run_lines(&text[..n]));
+    run_lines(&text[..n]);
 }
 
-fn report(t: Tally) {
-    io::print_decimal(STDOUT_FILENO, t.same);
-    io::write_all(STDOUT_FILENO, b" as expected, ");
-    io::print_decimal(STDOUT_FILENO, t.other);
-    io::write_all(STDOUT_FILENO, b" not\n");
+// Every line of the text, with room for the numbers of one.
+fn run_lines(text: &[u8]) {
+    let mut a = [0usize; 128];
+    let mut e = [0usize; 64];
+    each_line(text, &mut a, &mut e);
 }
 
-// Every line of the text in turn.
-fn run_lines(text: &[u8]) -> Tally {
-    let mut words = [0u64; 1024];
-    let mut out = [0u64; 1024];
-    each_line(text, &mut words, &mut out)
-}
-
-fn each_line(text: &[u8], words: &mut [u64], out: &mut [u64]) -> Tally {
-    let mut t = Tally { same: 0, other: 0 };
+fn each_line(text: &[u8], a: &mut [usize], e: &mut [usize]) {
+    let mut same: u64 = 0;
+    let mut other: u64 = 0;
     let mut at = 0;
     while at < text.len() {
-        let end = line::end(text, at);
-        let next = run_line(&text[at..end], words, out, t);
-        t = next;
-        at = end + 1;
+        let to = word::end(text, at, 10);
+        let t = line::run(&text[at..to], a, e);
+        same = std::num::wrapping_add_u64(same, t.same);
+        other = std::num::wrapping_add_u64(other, t.other);
+        at = to + 1;
     }
-    t
+    report(same, other);
 }
 
-// One line: counted, and written out where it is not as expected.
-fn run_line(text: &[u8], words: &mut [u64], out: &mut [u64], t: Tally) -> Tally {
-    match line::run(text, words, out) {
-        Verdict::Same => Tally {
-            same: std::num::wrapping_add_u64(t.same, 1),
-            other: t.other,
-        },
-        Verdict::Remark => t,
-        Verdict::Other => {
-            io::write_all(STDOUT_FILENO, b"not as expected: ");
-            io::write_all(STDOUT_FILENO, text);
-            io::write_all(STDOUT_FILENO, b"\n");
-            Tally {
-                same: t.same,
-                other: std::num::wrapping_add_u64(t.other, 1),
-            }
-        }
-    }
+fn report(same: u64, other: u64) {
+    io::print_decimal(STDOUT_FILENO, same);
+    say(b" as expected, ");
+    io::print_decimal(STDOUT_FILENO, other);
+    say(b" not\n");
 }

@@ -1,4 +1,4 @@
--- `each_line` goes on behind each line, and keeps its lists' lengths. Assumes nothing.
+-- `each_line` goes on behind each line, and keeps the lengths of its lists. Assumes nothing.
 use mathlib.Core.Path.{_≡_}
 use Prim.Native.Nat.{_-_}
 use lib.ListN.{length}
@@ -7,10 +7,10 @@ use Rattle.vectors.proofs.each_line.Statement.{statement}
 use Rattle.vectors.proofs.each_line.Tie as tie
 
 abbrev Inv-loop : tie.InvT-loop
-Inv-loop text words₀ out₀ t₀ at₀ words out t at = (length words ≡ length words₀) × (length out ≡ length out₀)
+Inv-loop text a₀ e₀ same₀ other₀ at₀ a e same other at = (length a ≡ length a₀) × (length e ≡ length e₀)
 
 abbrev μ-loop : tie.MeasureT-loop
-μ-loop text words₀ out₀ t₀ at₀ words out t at = length text - at
+μ-loop text a₀ e₀ same₀ other₀ at₀ a e same other at = length text - at
 
 loop-holds : tie.Need-loop-holds Inv-loop μ-loop
 loop-holds c = search needs
@@ -18,17 +18,23 @@ loop-holds c = search needs
 end-requires : tie.Need-end-requires Inv-loop μ-loop
 end-requires c κs = search needs
 
-sub-run-line : tie.Need-sub-run-line Inv-loop μ-loop
-sub-run-line c = search needs
+sub-run : tie.Need-sub-run Inv-loop μ-loop
+sub-run c = search needs
 
-part-run-line-start : tie.Need-part-run-line-start Inv-loop μ-loop
-part-run-line-start c = search needs
+part-run-start : tie.Need-part-run-start Inv-loop μ-loop
+part-run-start c = search needs
 
-part-run-line-end : tie.Need-part-run-line-end Inv-loop μ-loop
-part-run-line-end c = search needs
+part-run-end : tie.Need-part-run-end Inv-loop μ-loop
+part-run-end c = search needs
 
-run-line-requires : tie.Need-run-line-requires Inv-loop μ-loop
-run-line-requires c κs = search needs
+run-requires : tie.Need-run-requires Inv-loop μ-loop
+run-requires c κs = search needs
+
+wrapping-add-u64-requires : tie.Need-wrapping-add-u64-requires Inv-loop μ-loop
+wrapping-add-u64-requires c κs = search needs
+
+wrapping-add-u64-requires-2 : tie.Need-wrapping-add-u64-requires-2 Inv-loop μ-loop
+wrapping-add-u64-requires-2 c κs = search needs
 
 add-at : tie.Need-add-at Inv-loop μ-loop
 add-at c = search needs
@@ -38,6 +44,9 @@ loop-less c = search needs
 
 loop-again : tie.Need-loop-again Inv-loop μ-loop
 loop-again c = search needs
+
+report-requires : tie.Need-report-requires Inv-loop μ-loop
+report-requires c κs = search needs
 
 same-length : tie.Need-same-length Inv-loop μ-loop
 same-length c = search needs
@@ -56,13 +65,16 @@ each-line-spec =
     μ-loop
     loop-holds
     end-requires
-    sub-run-line
-    part-run-line-start
-    part-run-line-end
-    run-line-requires
+    sub-run
+    part-run-start
+    part-run-end
+    run-requires
+    wrapping-add-u64-requires
+    wrapping-add-u64-requires-2
     add-at
     loop-less
     loop-again
+    report-requires
     same-length
     same-length-2
     returns)

@@ -1,15 +1,15 @@
--- `end` stops at a newline or at the text's end. Assumes nothing.
-use Prim.Native.Nat.{_≤_, _-_, _+_}
+-- `end` stops at the byte or at the text's end. Assumes nothing.
+use Prim.Native.Nat.{_≤_, _-_}
 use lib.ListN.{length}
 use borrow.Author.Needs.{needs}
-use Rattle.vectors.proofs.line.end.Statement.{statement}
-use Rattle.vectors.proofs.line.end.Tie as tie
+use Rattle.vectors.proofs.word.end.Statement.{statement}
+use Rattle.vectors.proofs.word.end.Tie as tie
 
 abbrev Inv-loop : tie.InvT-loop
-Inv-loop text from i₀ i = (from ≤ i) × (i ≤ length text)
+Inv-loop text from byte i₀ i = (from ≤ i) × (i ≤ length text)
 
 abbrev μ-loop : tie.MeasureT-loop
-μ-loop text from i₀ i = length text - i
+μ-loop text from byte i₀ i = length text - i
 
 loop-holds : tie.Need-loop-holds Inv-loop μ-loop
 loop-holds c = search needs

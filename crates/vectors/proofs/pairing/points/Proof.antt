@@ -1,0 +1,64 @@
+-- `points` writes within its list, and keeps its length. Assumes nothing.
+use mathlib.Core.Path.{_≡_}
+use Prim.Native.Nat.{_-_}
+use lib.ListN.{length}
+use borrow.Author.Needs.{needs}
+use Rattle.vectors.proofs.pairing.points.Statement.{statement}
+use Rattle.vectors.proofs.pairing.points.Tie as tie
+
+abbrev Inv-loop : tie.InvT-loop
+Inv-loop a from out₀ w₀ i₀ out w i = length out ≡ length out₀
+
+abbrev μ-loop : tie.MeasureT-loop
+μ-loop a from out₀ w₀ i₀ out w i = length out₀ - i
+
+loop-holds : tie.Need-loop-holds Inv-loop μ-loop
+loop-holds c = search needs
+
+f64-at-requires : tie.Need-f64-at-requires Inv-loop μ-loop
+f64-at-requires c κs = search needs
+
+mul-out : tie.Need-mul-out Inv-loop μ-loop
+mul-out c = search needs
+
+slice-write-out : tie.Need-slice-write-out Inv-loop μ-loop
+slice-write-out c = search needs
+
+add-wrapping-add-usize : tie.Need-add-wrapping-add-usize Inv-loop μ-loop
+add-wrapping-add-usize c = search needs
+
+wrapping-add-usize-requires : tie.Need-wrapping-add-usize-requires Inv-loop μ-loop
+wrapping-add-usize-requires c κs = search needs
+
+add-i : tie.Need-add-i Inv-loop μ-loop
+add-i c = search needs
+
+loop-less : tie.Need-loop-less Inv-loop μ-loop
+loop-less c = search needs
+
+loop-again : tie.Need-loop-again Inv-loop μ-loop
+loop-again c = search needs
+
+same-length : tie.Need-same-length Inv-loop μ-loop
+same-length c = search needs
+
+returns : tie.Need-returns Inv-loop μ-loop
+returns c = search needs
+
+pub points-spec : {M : Type 1} → statement M
+points-spec =
+    tie.close
+    (tie.spec
+    Inv-loop
+    μ-loop
+    loop-holds
+    f64-at-requires
+    mul-out
+    slice-write-out
+    add-wrapping-add-usize
+    wrapping-add-usize-requires
+    add-i
+    loop-less
+    loop-again
+    same-length
+    returns)
