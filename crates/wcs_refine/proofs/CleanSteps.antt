@@ -18,10 +18,10 @@ use Rattle.fit.specs.declared.Clip.{Clip}
 use Rattle.fit.specs.declared.Clip.the-variants.{Kept, Unchanged}
 use Rattle.fit.specs.declared.Solution.{Solution}
 use Rattle.fit.specs.declared.Solution.the-variants.{Solved, Failed}
-use Rattle.wcs_refine.specs.Fixed.{Fixed}
+use Rattle.entry.specs.Fixed.{Fixed}
 use Rattle.wcs_refine.specs.Fit.{moved, sound, Statistics, none, some, statistics, taken}
 use Rattle.wcs_refine.specs.Closing.{Closed, unsound, fine, ifSound, refitted, recleaned, cleanedBy, cleaned}
-use Rattle.wcs_refine.specs.Passing.{statsOf, StatsOf, clipBy, closingClip, follows}
+use Rattle.wcs_refine.specs.Passing.{statsOf, Statted, clipBy, closingClip, follows}
 use Rattle.wcs_refine.specs.declared.cleaning.Refitted.{Refitted}
 use Rattle.wcs_refine.specs.declared.passing.Stats.{Stats}
 use Rattle.wcs_refine.specs.declared.passing.Stats.the-variants.{Of, Missing}
@@ -90,7 +90,7 @@ module _ (cut : Float) (ss ds : List Float) (p : Pose) (ms : List ℕ) where
       ap (clipBy rs ms) e ∙ sym (ap (λ (b : Bool). cond b (clippedTo Unchanged ms) (clipBy rs ms (statistics rs))) (le-ltb (length ms / 2) 6 h))
 
   module _ (enough : 6 ≤ length ms / 2) (mid after : List Float) {s : Stats} (front : take (length ms / 2) mid ≡ residuals (viewOf p cut) (rows ss ds ms))
-      (d : StatsOf mid after (length ms / 2) s) where
+      (d : Statted mid after (length ms / 2) s) where
     pub closing-none : s ≡ Missing → clippedTo Unchanged ms ≡ closingClip cut ss ds p ms
     unfolding statsOf clipBy
     closing-none f = closing-by enough none (ap statsOf (sym f) ∙ d .result ∙ ap statistics front)

@@ -16,7 +16,7 @@ use Rattle.fit.specs.Residual.{inFront, leading, residualMedianSigma, Measured,
 use Rattle.fit.specs.declared.Clip.{Clip}
 use Rattle.fit.specs.declared.Clip.the-variants.{Kept, Unchanged}
 use Rattle.wcs_refine.specs.Fit.{Statistics, none, some, statistics, taken, clipped}
-use Rattle.wcs_refine.specs.Passing.{statsOf, StatsOf, ClippedTo}
+use Rattle.wcs_refine.specs.Passing.{statsOf, Statted, ClippedTo}
 use Rattle.wcs_refine.specs.declared.passing.Stats.{Stats}
 use Rattle.wcs_refine.specs.declared.passing.Stats.the-variants.{Of, Missing}
 
@@ -30,7 +30,7 @@ enough-residuals : (rs : List Float) → 6 ≤ length (inFront rs) → some (med
 unfolding statistics
 enough-residuals rs h = sym (ap (λ (b : Bool). cond b none (some (medianMadSigma (inFront rs)))) (le-ltb (length (inFront rs)) 6 h))
 
-pub no-stats : (l : List Float) (n k : ℕ) → k ≡ length (inFront (take n l)) → k < 6 → StatsOf l l n Missing
+pub no-stats : (l : List Float) (n k : ℕ) → k ≡ length (inFront (take n l)) → k < 6 → Statted l l n Missing
 unfolding statsOf
 no-stats l n k e h = record { result = few-residuals (take n l) (omega arith); front = refl }
 
@@ -39,7 +39,7 @@ front-same l after more last n k e h m =
     ap (take n) m ∙ ap (λ (j : ℕ). take n (take j l ++ more ++ last)) e ∙ ap (take n) (append-assoc (take n l) more last) ∙ take-at (take n l) (more ++ last) n (length-take-le n l h)
 
 pub with-stats : (l after : List Float) (n k : ℕ) (m : MedianSigma) → 2 * n ≤ length l → k ≡ length (inFront (take n l)) → 6 ≤ k → Measured l after n m
-    → StatsOf l after n (Of (m .median) (m .sigma))
+    → Statted l after n (Of (m .median) (m .sigma))
 unfolding statsOf residualMedianSigma
 with-stats l after n k m w e h d =
     let whole : leading l n ≡ n = omega arith in

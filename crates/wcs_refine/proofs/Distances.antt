@@ -12,8 +12,8 @@ use Rattle.rounding.specs.Arith.{_⊕_, _⊗_, zero64}
 use Rattle.rounding.specs.Methods.{maxF}
 use Rattle.fit.specs.Rows.{spotAt}
 use Rattle.fit.specs.declared.Spot.{Spot}
-use Rattle.wcs_refine.specs.Check.{between, farSpot}
-use Rattle.wcs_refine.specs.Fixed.{distance, farthest}
+use Rattle.entry.specs.Check.{between, farSpot}
+use Rattle.entry.specs.Fixed.{distance, farthest}
 use Rattle.wcs_refine.specs.Unseen.{LawfulSpot}
 use Rattle.wcs_refine.proofs.BitOrder.{Plain, bits, numeric, by-bits, le-bits, max-plain, zero-plain, square-plain, add-plain, root-plain}
 

@@ -8,9 +8,6 @@ pub mod Distances
 pub mod Unchanged
 pub mod SameChecks
 pub mod TwoCalls
-pub mod CallParts
-pub mod ListTests
-pub mod StartPoses
 pub mod PassSteps
 pub mod Lengths
 pub mod ClipSteps
@@ -18,3 +15,17 @@ pub mod CleanSteps
 pub mod ReportSteps
 pub mod Listed
 pub mod Meant
+pub mod LookSteps
+pub mod RoundSteps
+pub mod RunSteps
+pub mod EndSteps
+pub mod FewMatches
+pub mod LoopEnds
+pub mod CallBounds
+pub mod CallsAgree
+pub mod CallEnds
+pub mod SameLinks
+pub mod TableSteps
+pub mod NewMatches
+pub mod FindSteps
+pub mod AssociateSteps

@@ -14,7 +14,7 @@ use Rattle.fit.specs.Camera.{boresight, cameraRows}
 use Rattle.fit.specs.Rows.{Row, rows, viewOf}
 use Rattle.fit.specs.Residual.{residuals}
 use Rattle.fit.specs.declared.Pose.{Pose}
-use Rattle.wcs_refine.specs.Fixed.{Fixed}
+use Rattle.entry.specs.Fixed.{Fixed}
 use Rattle.wcs_refine.specs.Fit.{Passes, fitPasses, statistics, clipped}
 use Rattle.wcs_refine.specs.Query.{Cache, empty, full, query, drifted, Prediction, predictions, pruned}
 use Rattle.wcs_refine.specs.Associate.{adaptivePx, laid, renamed, sameMatches}

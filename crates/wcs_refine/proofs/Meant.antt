@@ -8,7 +8,7 @@ use lib.ListN.{getD}
 use Rattle.fit.specs.Rows.{directionAt}
 use Rattle.fit.specs.declared.Pose.{Pose}
 use Rattle.matching.specs.Greedy.{Match, flat}
-use Rattle.wcs_refine.specs.Fixed.{Fixed, searchRadius, requeryMargin, requeryCos, pruneR, keepR, thetaMargin}
+use Rattle.entry.specs.Fixed.{Fixed, searchRadius, requeryMargin, requeryCos, pruneR, keepR, thetaMargin}
 use Rattle.wcs_refine.specs.Query.{leastCos, drifted, Prediction, predicted, reaches, predictions, pruned}
 use Rattle.wcs_refine.specs.Associate.{laid, directionOf, renamed}
 use Rattle.wcs_refine.specs.Listing.{leastCosOf, driftedFrom, fallOf, falling, standing, points, idsOf, renamedBy}

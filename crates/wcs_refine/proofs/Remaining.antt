@@ -15,7 +15,7 @@ use Rattle.matching.specs.Greedy.{Match, clashes, assigned, matchesOf}
 use Rattle.fit.specs.Residual.{keeps, keptFrom, thresholdOf, kept, Clipped, madClipMatches}
 use Rattle.fit.specs.Rows.{directionAt}
 use Rattle.fit.specs.declared.Clip.the-variants.{Kept, Unchanged}
-use Rattle.wcs_refine.specs.Fixed.{Fixed, pruneR, keepR}
+use Rattle.entry.specs.Fixed.{Fixed, pruneR, keepR}
 use Rattle.wcs_refine.specs.Fit.{Statistics, none, some, taken, clipped}
 use Rattle.wcs_refine.specs.Query.{Prediction, predicted, reaches, predictions, pruned}
 use Rattle.wcs_refine.specs.Associate.{Link, links, laid, directionOf, renamed}

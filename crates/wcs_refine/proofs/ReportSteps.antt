@@ -23,7 +23,7 @@ use Rattle.fit.specs.declared.Pose.{Pose}
 use Rattle.fit.specs.declared.Solution.{Solution}
 use Rattle.fit.specs.declared.Solution.the-variants.{Solved, Failed}
 use Rattle.wcs_refine.specs.Closing.{sumSquares, rootMean, Report, reported}
-use Rattle.wcs_refine.specs.Fixed.{Fixed}
+use Rattle.entry.specs.Fixed.{Fixed}
 use Rattle.wcs_refine.specs.Passing.{covarianceOf}
 use Rattle.wcs_refine.proofs.Along.{either}
 

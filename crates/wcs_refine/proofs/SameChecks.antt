@@ -10,8 +10,8 @@ use lib.Ieee.{Float, nan}
 use lib.Ieee.Fits.{and-l, and-r}
 use Rattle.fit.specs.Rows.{spotAt, directionAt}
 use Rattle.fit.specs.declared.Spot.{Spot}
-use Rattle.wcs_refine.specs.Arguments.{Call, Given, spotCount, directionCount}
-use Rattle.wcs_refine.specs.Check.{mostSpots, mostMatches, mostDirections, mostRounds, lawfulCoordinate, lawfulComponent, every, divides, few, scaleFits, radiusFits, rotationFits, numbersFit, named, long, refusal}
+use Rattle.entry.specs.Arguments.{Call, Given, spotCount, directionCount}
+use Rattle.entry.specs.Check.{mostSpots, mostMatches, mostDirections, mostRounds, lawfulCoordinate, lawfulComponent, every, divides, few, scaleFits, radiusFits, rotationFits, numbersFit, named, long, refusal}
 use Rattle.wcs_refine.specs.Unseen.{LawfulSpot, OnlyUnseen}
 use Rattle.wcs_refine.proofs.Unchanged.{spot-dec, direction-dec}
 

@@ -14,7 +14,7 @@ use Rattle.fit.specs.declared.Solution.{Solution}
 use Rattle.fit.specs.declared.Solution.the-variants.{Solved, Failed}
 use Rattle.fit.specs.declared.Clip.{Clip}
 use Rattle.fit.specs.declared.Clip.the-variants.{Kept, Unchanged}
-use Rattle.wcs_refine.specs.Fixed.{Fixed}
+use Rattle.entry.specs.Fixed.{Fixed}
 use Rattle.wcs_refine.specs.Fit.{moved, sound, Statistics, none, some, statistics, taken}
 use Rattle.wcs_refine.specs.Closing.{Closed, unsound, fine, ifSound, refitted, recleaned, cleanedBy, cleaned}
 use Rattle.wcs_refine.proofs.Along.{either}

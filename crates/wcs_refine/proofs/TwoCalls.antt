@@ -10,9 +10,9 @@ use lib.Ieee.{Float}
 use Rattle.rounding.specs.Arith.{zero64}
 use Rattle.matching.specs.Pairs.{spotsWithin}
 use Rattle.fit.specs.Rows.{spotAt, directionAt}
-use Rattle.wcs_refine.specs.Arguments.{Call, Given, spotCount, directionCount}
-use Rattle.wcs_refine.specs.Check.{refusal}
-use Rattle.wcs_refine.specs.Fixed.{Fixed, fixed, distance, farthest}
+use Rattle.entry.specs.Arguments.{Call, Given, spotCount, directionCount}
+use Rattle.entry.specs.Check.{refusal}
+use Rattle.entry.specs.Fixed.{Fixed, fixed, distance, farthest}
 use Rattle.wcs_refine.specs.Associate.{Link, links}
 use Rattle.wcs_refine.specs.Round.{Ending, refused, ended, Run, loop}
 use Rattle.wcs_refine.specs.Closing.{Closed, unsound, fine, cleaned, reported}

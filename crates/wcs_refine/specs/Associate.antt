@@ -7,7 +7,7 @@ use lib.Ieee.{Float}
 use Rattle.rounding.specs.Arith.{_⊗_, _⊘_, f64}
 use Rattle.rounding.specs.Methods.{maxF, minF}
 use Rattle.matching.specs.Greedy.{Match}
-use Rattle.wcs_refine.specs.Fixed.{Fixed, radiusPx}
+use Rattle.entry.specs.Fixed.{Fixed, radiusPx}
 use Rattle.wcs_refine.specs.Fit.{Statistics, none, some}
 use Rattle.wcs_refine.specs.Query.{Prediction}
 

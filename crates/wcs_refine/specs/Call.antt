@@ -7,9 +7,9 @@ use lib.ListN.{length, drop, replicate}
 use lib.Ieee.{Float}
 use Rattle.rounding.specs.Arith.{zero64}
 use Rattle.fit.specs.Rows.{rows}
-use Rattle.wcs_refine.specs.Arguments.{Call, Given, Lent}
-use Rattle.wcs_refine.specs.Check.{refusal}
-use Rattle.wcs_refine.specs.Fixed.{Fixed, fixed, startPose}
+use Rattle.entry.specs.Arguments.{Call, Given, Lent}
+use Rattle.entry.specs.Check.{refusal}
+use Rattle.entry.specs.Fixed.{Fixed, fixed, startPose}
 use Rattle.wcs_refine.specs.Query.{empty}
 use Rattle.wcs_refine.specs.Round.{State, Ending, refused, ended, Run, loop}
 use Rattle.wcs_refine.specs.Closing.{Closed, unsound, fine, cleaned, Report, reported}

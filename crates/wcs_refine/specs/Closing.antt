@@ -19,7 +19,7 @@ use Rattle.fit.specs.declared.Solution.the-variants.{Solved, Failed}
 use Rattle.fit.specs.declared.Clip.{Clip}
 use Rattle.fit.specs.declared.Clip.the-variants.{Kept, Unchanged}
 use Rattle.fit.specs.declared.Counted.{Counted}
-use Rattle.wcs_refine.specs.Fixed.{Fixed}
+use Rattle.entry.specs.Fixed.{Fixed}
 use Rattle.wcs_refine.specs.Fit.{moved, sound, Statistics, none, some, statistics, taken}
 
 -- The clips meet refusal 12, or leave a pose and matches.

@@ -1,6 +1,3 @@
-pub mod Arguments
-pub mod Check
-pub mod Fixed
 pub mod Fit
 pub mod Query
 pub mod Associate
@@ -8,6 +5,11 @@ pub mod Round
 pub mod Closing
 pub mod Call
 pub mod Unseen
-pub mod Entry
 pub mod Passing
 pub mod Listing
+pub mod Keeping
+pub mod Returned
+pub mod Sighting
+pub mod Stepping
+pub mod Ending
+pub mod Comparing

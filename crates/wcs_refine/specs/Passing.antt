@@ -14,7 +14,7 @@ use Rattle.fit.specs.declared.Counted.{Counted}
 use Rattle.fit.specs.declared.Pose.{Pose}
 use Rattle.fit.specs.declared.Clip.{Clip}
 use Rattle.fit.specs.declared.Clip.the-variants.{Kept, Unchanged}
-use Rattle.wcs_refine.specs.Fixed.{Fixed}
+use Rattle.entry.specs.Fixed.{Fixed}
 use Rattle.wcs_refine.specs.Closing.{Closed, unsound, fine, refitted, cleaned, Report}
 use Rattle.wcs_refine.specs.Fit.{Passes, Statistics, none, some, statistics, clipped}
 use Rattle.wcs_refine.specs.declared.passing.Passed.{Passed}
@@ -32,7 +32,7 @@ statsOf (Of median sigma) = some (record { median = median; sigma = sigma })
 statsOf Missing = none
 
 -- The statistics of the first n numbers, which stay as they are; the places after them are scratch.
-pub record StatsOf (before after : List Float) (n : ℕ) (r : Stats) : Type 0 where
+pub record Statted (before after : List Float) (n : ℕ) (r : Stats) : Type 0 where
   pub result : statsOf r ≡ statistics (take n before)
   pub front : take n after ≡ take n before
 

@@ -13,7 +13,7 @@ use Rattle.fit.specs.Vector.{at, row, dot}
 use Rattle.fit.specs.Camera.{boresight, cameraRows}
 use Rattle.fit.specs.Rows.{directionAt}
 use Rattle.fit.specs.declared.Pose.{Pose}
-use Rattle.wcs_refine.specs.Fixed.{Fixed, searchRadius, requeryMargin, requeryCos, pruneR, keepR, thetaMargin}
+use Rattle.entry.specs.Fixed.{Fixed, searchRadius, requeryMargin, requeryCos, pruneR, keepR, thetaMargin}
 
 -- ---- the scan, in f32
 

@@ -8,11 +8,13 @@ use lib.ListN.{length, getD}
 use lib.Ieee.{Float, nan, le}
 use Rattle.fit.specs.Rows.{spotAt, directionAt}
 use Rattle.fit.specs.declared.Spot.{Spot}
-use Rattle.wcs_refine.specs.Arguments.{Call, spotCount, directionCount}
-use Rattle.wcs_refine.specs.Check.{lawfulCoordinate, lawfulComponent, every}
-use Rattle.wcs_refine.specs.Fixed.{distance}
+use Rattle.entry.specs.Arguments.{Call, Lent, spotCount, directionCount}
+use Rattle.entry.specs.Check.{lawfulCoordinate, lawfulComponent, every}
+use Rattle.entry.specs.Fixed.{distance}
 use Rattle.wcs_refine.specs.Associate.{Link, links}
 use Rattle.wcs_refine.specs.Call.{queries, outcome}
+use Rattle.wcs_refine.specs.Returned.{Answers}
+use Rattle.wcs_refine.specs.declared.WcsRefineResult.{WcsRefineResult}
 
 -- "Alike: equal list lengths, other arguments equal bit for bit, and lists written to holding the same bits before the call."
 pub record Alike (a b : Call) : Type 0 where
@@ -81,3 +83,7 @@ pub record OnlyUnseen (a b : Call) : Type 0 where
 -- Demand 3: "give the same refusal or the same answer, every bit and every count, and leave every lent list written to with the same contents".
 abbrev pub UnseenChangesNothing : Type 0
 UnseenChangesNothing = (a b : Call) → Alike a b → OnlyUnseen a b → outcome a ≡ outcome b
+
+-- The same of the code, whose contract is `Answers`: two such calls hand back the same, and leave every list that they write to alike.
+abbrev pub CallsAgree : Type 0
+CallsAgree = (a b : Call) (r s : WcsRefineResult) (l m : Lent) → Alike a b → OnlyUnseen a b → Answers a r l → Answers b s m → (r ≡ s) × (l ≡ m)

@@ -5,7 +5,7 @@ ghost use lib.ListN.{length, take};
 ghost use Rattle.fit.specs.Rows.{rows};
 ghost use Rattle.fit.specs.Residual.{inFront};
 ghost use Rattle.wcs_refine.specs.Fit.{moved, sound, still, fitPasses};
-ghost use Rattle.wcs_refine.specs.Passing.{passesOf, StatsOf, ClippedTo};
+ghost use Rattle.wcs_refine.specs.Passing.{passesOf, Statted, ClippedTo};
 use fit::Clip;
 use fit::Pose;
 use fit::Solution;
@@ -130,7 +130,7 @@ pub(crate) fn fit_passes(
 // The statistics of the first n numbers, of those in front of the plane; the list has as many places again, as scratch.
 pub(crate) fn compute_stats(floats: &mut [f64], n: usize, in_front: usize) -> Stats
     requires { ⌜ (2 * n ≤ length (now floats)) × («in_front» ≡ length (inFront (take n (now floats)))) ⌝ }
-    ensures { λ r. ⌜ StatsOf (now (floats .entry)) (now (floats .exit)) n r ⌝ }
+    ensures { λ r. ⌜ Statted (now (floats .entry)) (now (floats .exit)) n r ⌝ }
 {
     if in_front < FEWEST_RESIDUALS {
         return Stats::Missing;

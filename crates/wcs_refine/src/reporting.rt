@@ -11,7 +11,7 @@ ghost use Rattle.rounding.specs.Root.{root};
 ghost use Rattle.fit.specs.Rows.{rows, viewOf};
 ghost use Rattle.fit.specs.Residual.{inFront};
 ghost use Rattle.fit.specs.Normal.{normalMatrix};
-ghost use Rattle.wcs_refine.specs.Fixed.{Fixed};
+ghost use Rattle.entry.specs.Fixed.{Fixed};
 ghost use Rattle.wcs_refine.specs.Closing.{sumSquares, reported};
 ghost use Rattle.wcs_refine.specs.Passing.{covarianceOf, reportOf};
 use fit::NO_RESIDUAL;

@@ -5,7 +5,7 @@ use native.Mathlib.Omega.{arith}
 use borrow.Author.Needs.{needs}
 use borrow.Author.Tests.{not-true, not-false}
 use lib.ListN.{length, take, length-take}
-use Rattle.wcs_refine.specs.Fixed.{Fixed}
+use Rattle.entry.specs.Fixed.{Fixed}
 use Rattle.wcs_refine.specs.Closing.{cleaned}
 use Rattle.wcs_refine.proofs.CleanSteps.{turn-fewer, turn-length, turn-ends, turn-unsound, turn-on, turns-end}
 use Rattle.wcs_refine.proofs.cleaning.clean.Statement.{statement}

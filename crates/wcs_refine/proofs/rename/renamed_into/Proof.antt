@@ -1,14 +1,15 @@
 -- `rename::renamed_into` meets its contract. The invariant: the matches renamed so far stand where they are to, and with those to come they are all.
 -- Assumes nothing.
-use mathlib.Core.Path.{_≡_, refl, sym, ap, subst, _∙_}
+use mathlib.Core.Path.{_≡_, sym, ap, subst, _∙_}
 use mathlib.Core.Logic.{_⊎_, inl, inr, ⊎-elim}
 use mathlib.Core.List.{List, [], _∷_, _++_}
-use Prim.Native.Nat.{ℕ, suc, _+_, _*_, _-_, _≤_, _<_}
+use Prim.Native.Nat.{ℕ, _+_, _*_, _-_, _≤_, _<_}
 use native.Mathlib.Omega.{arith}
 use lib.ListN.{length, getD, set, take, drop, length-set}
-use lib.Seq.{slice, slice-cons, slice-empty}
+use lib.Seq.{slice, slice-empty}
 use Rattle.wcs_refine.specs.Listing.{renamedBy}
 use Rattle.wcs_refine.proofs.Listed.{Writing, begin, onward, push, in-front, behind, part-same, whole}
+use Rattle.wcs_refine.proofs.TableSteps.{two-more}
 use borrow.Author.Needs.{needs}
 use Rattle.wcs_refine.proofs.rename.renamed_into.Statement.{statement}
 use Rattle.wcs_refine.proofs.rename.renamed_into.Tie as tie
@@ -21,19 +22,6 @@ Inv-loop numbers₀ ids count from t to i₀ numbers i =
 
 abbrev μ-loop : tie.MeasureT-loop
 μ-loop numbers₀ ids count from t to i₀ numbers i = t - i
-
--- two numbers more of a part
-two-more : (l : List ℕ) (a i e : ℕ) → a + 2 * i + 1 < e → e ≤ length l
-    → slice (a + 2 * i) e l ≡ getD l (a + 2 * i) 0 ∷ getD l (a + 2 * i + 1) 0 ∷ slice (a + 2 * (i + 1)) e l
-two-more l a i e h fits =
-    let p : a + 2 * i < e = omega arith in
-    let q : suc (a + 2 * i) < e = omega arith in
-    let u : suc (a + 2 * i) ≡ a + 2 * i + 1 = omega arith in
-    let v : suc (suc (a + 2 * i)) ≡ a + 2 * (i + 1) = omega arith in
-    slice-cons (a + 2 * i) e l 0 p fits
-    ∙ ap (λ (s : List ℕ). getD l (a + 2 * i) 0 ∷ s)
-    (slice-cons (suc (a + 2 * i)) e l 0 q fits ∙ ap (λ (j : ℕ). getD l j 0 ∷ slice (suc (suc (a + 2 * i))) e l) u
-    ∙ ap (λ (j : ℕ). getD l (a + 2 * i + 1) 0 ∷ slice j e l) v)
 
 module _ (ids count start t to : ℕ) (o m : List ℕ) (i : ℕ) (h : i < t) (ids-fit : ids + count ≤ length o) (fits : start + 2 * t ≤ length o) (room : to + 2 * t ≤ length o)
     (off-ids : (ids + count ≤ to) ⊎ (to + 2 * t ≤ ids)) (apart : (start + 2 * t ≤ to) ⊎ (to + 2 * t ≤ start))

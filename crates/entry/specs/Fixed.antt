@@ -1,0 +1,100 @@
+-- What a run computes once from its arguments: the head of `wcs_refine`, and the radii of its re-association, which are the same in every round.
+-- Definitions only. Assumes nothing.
+use Prim.Native.Nat.{ℕ, zero, suc, _+_, _*_}
+use mathlib.Core.Bool.{Bool, cond}
+use mathlib.Core.List.{List}
+use lib.ListN.{getD, length}
+use lib.Ieee.{Float, nan, binary64}
+use Rattle.rounding.specs.Arith.{_⊕_, _⊖_, _⊗_, _⊘_, f64, zero64, one64}
+use Rattle.rounding.specs.Root.{root}
+use Rattle.rounding.specs.Methods.{maxF, clampF}
+use Rattle.angles.specs.SinCos.{cos}
+use Rattle.angles.specs.Inverse.{asin, atan2}
+use Rattle.matching.specs.Greedy.{capacity}
+use Rattle.fit.specs.Constants.{planeCut, minusOne, two, clipNsigma}
+use Rattle.fit.specs.Vector.{row, entry, dot}
+use Rattle.fit.specs.Camera.{east, north}
+use Rattle.fit.specs.Rows.{spotAt}
+use Rattle.fit.specs.declared.Spot.{Spot}
+use Rattle.fit.specs.declared.Pose.{Pose}
+use Rattle.entry.specs.Arguments.{Call, Given, spotCount, directionCount}
+
+-- 01: "A spot's distance .. is the rounded sqrt(x × x + y × y)."
+unfoldable pub distance : Spot → Float
+unfolding root
+distance s = root binary64 (s .px ⊗ s .px ⊕ s .py ⊗ s .py)
+
+-- "The run takes the greatest over all spots, those beyond the matching limit included, or 0 if there are none": of the spots from i on, k of them.
+unfoldable pub farthest : List Float → ℕ → ℕ → Float → Float
+unfolding distance spotAt maxF
+farthest spots i zero far = far
+farthest spots i (suc k) far = farthest spots (suc i) k (maxF far (distance (spotAt spots i)))
+
+-- All that the rounds read beside spots, directions and their state.
+pub record Fixed : Type 0 where
+  pub scale : Float
+  pub mirror : Bool
+  pub radius : Float
+  pub limit : ℕ
+  pub count : ℕ
+  pub capacity : ℕ
+  pub cut : Float
+  pub far : Float
+
+unfoldable pub fixed : Call → Fixed
+unfolding farthest
+fixed c = record {
+  scale = c .given .scale;
+  mirror = c .given .mirror;
+  radius = c .given .radius;
+  limit = c .given .limit;
+  count = directionCount c;
+  capacity = capacity (c .given .lent .distances) (c .given .lent .indices);
+  cut = planeCut;
+  far = farthest (c .spots) 0 (spotCount c) zero64;
+}
+
+-- search_radius, requery_margin, requery_cos
+unfoldable pub requeryMargin : Fixed → Float
+requeryMargin k = k .radius ⊗ two
+
+unfoldable pub searchRadius : Fixed → Float
+unfolding maxF
+searchRadius k = maxF (k .scale ⊗ k .far ⊗ f64 0x3FF8000000000000) (k .radius ⊗ two)
+
+unfoldable pub requeryCos : Fixed → Float
+unfolding requeryMargin cos
+requeryCos k = cos (requeryMargin k)
+
+-- radius_px, prune_r and its square, margin_px, keep_r and its square, theta_margin
+unfoldable pub radiusPx : Fixed → Float
+radiusPx k = k .radius ⊘ k .scale
+
+unfoldable pub pruneR : Fixed → Float
+unfolding radiusPx
+pruneR k = k .far ⊕ radiusPx k
+
+unfoldable pub marginPx : Fixed → Float
+unfolding requeryMargin
+marginPx k = requeryMargin k ⊘ k .scale
+
+unfoldable pub keepR : Fixed → Float
+unfolding pruneR marginPx
+keepR k = pruneR k ⊕ f64 0x4008000000000000 ⊗ marginPx k
+
+unfoldable pub thetaMargin : Fixed → Float
+unfolding keepR marginPx
+thetaMargin k = marginPx k ⊘ keepR k
+
+-- The start pose, from the first and third rows of the rotation.
+unfoldable pub startPose : Given → Pose
+unfolding atan2 asin clampF east north dot
+startPose g =
+    let ra = atan2 (entry (g .rotation) 2 1) (entry (g .rotation) 2 0) in
+    let dec = asin (clampF (entry (g .rotation) 2 2) minusOne one64) in
+    record {
+      theta = atan2 (dot (row (g .rotation) 0) (north ra dec)) (dot (row (g .rotation) 0) (east ra));
+      ra = ra;
+      dec = dec;
+      scale = g .scale;
+    }

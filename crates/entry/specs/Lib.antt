@@ -1,0 +1,4 @@
+pub mod Arguments
+pub mod Check
+pub mod Fixed
+pub mod Entry

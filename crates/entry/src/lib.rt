@@ -1,0 +1,38 @@
+// What a refinement call does before its run: the checks on entry, and what is computed once from the arguments.
+mod bounds; // bounds.rt: the bounds of refusals 6 to 9
+mod check; // check.rt: the checks on entry, refusals 5 to 11
+mod head; // head.rt: what a run computes once from its arguments
+
+pub use bounds::Component;
+pub use bounds::Coordinate;
+pub use bounds::Directions;
+pub use bounds::Matches;
+pub use bounds::Radius;
+pub use bounds::Rounds;
+pub use bounds::Scale;
+pub use bounds::Spots;
+pub use check::refusal_of;
+pub use head::distance;
+pub use head::farthest_of;
+pub use head::keep_r;
+pub use head::margin_px;
+pub use head::prune_r;
+pub use head::radius_px;
+pub use head::requery_cos;
+pub use head::requery_margin;
+pub use head::search_radius;
+pub use head::settings_of;
+pub use head::start_pose;
+pub use head::theta_margin;
+
+// All that the rounds read beside spots, directions and their state: `count` directions, and room for `capacity` pairs.
+pub struct Settings {
+    pub scale: f64,
+    pub mirror: bool,
+    pub radius: f64,
+    pub limit: usize,
+    pub count: usize,
+    pub capacity: usize,
+    pub cut: f64,
+    pub far: f64,
+}

@@ -1,0 +1,19 @@
+// What a round starts from and leaves, by value; its lists stand in the working list of whole numbers (specs/Keeping.antt).
+use fit::Pose;
+
+// The pose, how many matches there are, and the cached query: whether there is one, its boresight and roll, and how many directions it lists.
+pub(crate) struct Held {
+    pub pose: Pose,
+    pub used: usize,
+    pub filled: bool,
+    pub boresight: [f64; 3],
+    pub theta: f64,
+    pub cached: usize,
+}
+
+// The run goes on, has converged, or meets a refusal.
+pub(crate) enum Verdict {
+    GoOn,
+    Done,
+    Refused(usize),
+}
