@@ -1,5 +1,6 @@
 // The functions for C and Rust to link (`rt staticlib exports`). Each hands its arguments to the function of the same name and promises the same.
 mod lists; // lists.rt: the functions over lists
+mod refine; // refine.rt: the refinement call
 
 ghost use mathlib.Core.Path.{_≡_};
 ghost use lib.Ieee.{binary32, binary64};

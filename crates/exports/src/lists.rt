@@ -51,7 +51,7 @@ fn code(m: Matched) -> usize
     }
 }
 
-fn put(s: &mut [f64], i: usize, x: f64)
+pub(crate) fn put(s: &mut [f64], i: usize, x: f64)
     ensures { λ _. ⌜ now (s .exit) ≡ set (now (s .entry)) i x ⌝ }
 {
     if i < s.len() {
