@@ -19,8 +19,8 @@ use Rattle.wcs_refine.specs.Query.{Cache, Prediction}
 use Rattle.wcs_refine.specs.Associate.{laid, renamed, sameMatches}
 use Rattle.wcs_refine.specs.Listing.{renamedBy}
 use Rattle.wcs_refine.specs.Round.{State, Next, go, done, refuse, settled, associated}
-use Rattle.wcs_refine.specs.Keeping.{cacheOf, heldCache, heldMatches, heldState, nextOf, Matchable, Fits, Predicted, AssociatedTo}
-use Rattle.wcs_refine.specs.Comparing.{Kept, Comparable, Compared, NewAt, FoundTo, heldWith}
+use Rattle.wcs_refine.specs.Keeping.{cacheOf, heldCache, heldMatches, heldState, withUsed, nextOf, Matchable, Fits, Predicted, AssociatedTo}
+use Rattle.wcs_refine.specs.Comparing.{Kept, Comparable, Compared, NewAt, FoundTo}
 use Rattle.wcs_refine.specs.declared.associating.Tally.{Tally}
 use Rattle.wcs_refine.specs.declared.keeping.Held.{Held}
 use Rattle.wcs_refine.specs.declared.keeping.Verdict.the-variants.{GoOn, Done, Refused}
@@ -191,7 +191,7 @@ module _ (k : Settings) (n q : ℕ) (spots floats d : List Float) (ix before : L
           ∙ at .list
 
       pub taken : {last : List ℕ} {next : Held} → b ≡ false → 4 ≤ f .count → last ≡ slice (8 * n) (8 * n + 2 * f .count) m ++ drop (2 * f .count) m
-          → next ≡ heldWith h (f .count) → AssociatedTo k n spots h r q before floats last (record { held = next; verdict = GoOn })
+          → next ≡ withUsed h (f .count) → AssociatedTo k n spots h r q before floats last (record { held = next; verdict = GoOn })
       unfolding nextOf
       taken {last} {next} y z brought is =
           let now : last ≡ new ++ drop (2 * f .count) m = brought ∙ ap (λ (l : List ℕ). l ++ drop (2 * f .count) m) there in

@@ -19,8 +19,8 @@ use Rattle.wcs_refine.specs.Fit.{fitPasses, Statistics, statistics, clip
 use Rattle.wcs_refine.specs.Associate.{adaptivePx}
 use Rattle.wcs_refine.specs.Round.{refuse, Found, Round, searched, rest, fitted, round}
 use Rattle.wcs_refine.specs.Passing.{passesOf, statsOf, Statted, ClippedTo}
-use Rattle.wcs_refine.specs.Keeping.{cacheOf, heldCache, heldMatches, heldState, Ready, Fits, nextOf, SearchedTo, RoundTo}
-use Rattle.wcs_refine.specs.Stepping.{posed, keeps, stopped, refusalOf, residualsAt, TrimmedTo, restOf, RestTo}
+use Rattle.wcs_refine.specs.Keeping.{cacheOf, heldCache, heldMatches, heldState, withUsed, Ready, Fits, nextOf, SearchedTo, RoundTo}
+use Rattle.wcs_refine.specs.Stepping.{posed, stopped, refusalOf, residualsAt, TrimmedTo, restOf, RestTo}
 use Rattle.wcs_refine.specs.declared.keeping.Held.{Held}
 use Rattle.wcs_refine.specs.declared.keeping.Verdict.{Verdict}
 use Rattle.wcs_refine.specs.declared.keeping.Verdict.the-variants.{GoOn, Done, Refused}
@@ -129,7 +129,7 @@ module _ (k : Settings) (n : ℕ) (ss ds : List Float) (h : Held) (l : List ℕ)
   pub renew-length : length (out ++ drop m l) ≡ length l
   renew-length = length-front l out m long
 
-  pub renew-fits : Fits k n (keeps h (t .used))
+  pub renew-fits : Fits k n (withUsed h (t .used))
   renew-fits = record { used = omega (arith, fits .used, d .fewer, part-length); cached = fits .cached }
 
   renew-matches : take (2 * t .used) (out ++ drop m l) ≡ clipped (residualsAt k ss ds (h .pose) (heldMatches h l)) (statistics (residualsAt k ss ds (h .pose) (heldMatches h l))) (heldMatches h l)
@@ -138,7 +138,7 @@ module _ (k : Settings) (n : ℕ) (ss ds : List Float) (h : Held) (l : List ℕ)
       take-append-le (2 * t .used) out (drop m l) w ∙ d .front
       ∙ ap (λ (x : ℕ). clipped (residualsAt k ss ds (h .pose) (take x l)) (statistics (residualsAt k ss ds (h .pose) (take x l))) (take x l)) is
 
-  renew-cache : heldCache n (keeps h (t .used)) (out ++ drop m l) ≡ heldCache n h l
+  renew-cache : heldCache n (withUsed h (t .used)) (out ++ drop m l) ≡ heldCache n h l
   renew-cache =
       let v : length out ≤ 2 * n = omega (arith, fits .used, part-length) in
       let w : length out ≤ 2 * n + h .cached = omega (arith, fits .used, part-length) in
@@ -147,17 +147,17 @@ module _ (k : Settings) (n : ℕ) (ss ds : List Float) (h : Held) (l : List ℕ)
   renew-radius : t .radius ≡ adaptivePx (fixedOf k) (statistics (residualsAt k ss ds (h .pose) (heldMatches h l)))
   renew-radius = d .radius ∙ ap (λ (x : ℕ). adaptivePx (fixedOf k) (statistics (residualsAt k ss ds (h .pose) (take x l)))) is
 
-  renew-rest : searched (fixedOf k) ss ds (h .pose) (heldMatches (keeps h (t .used)) (out ++ drop m l)) (t .radius) (heldCache n (keeps h (t .used)) (out ++ drop m l)) ≡ restOf k n ss ds h l
+  renew-rest : searched (fixedOf k) ss ds (h .pose) (heldMatches (withUsed h (t .used)) (out ++ drop m l)) (t .radius) (heldCache n (withUsed h (t .used)) (out ++ drop m l)) ≡ restOf k n ss ds h l
   unfolding rest
   renew-rest =
       let rs = residualsAt k ss ds (h .pose) (heldMatches h l) in
-      ap (λ (x : List ℕ). searched (fixedOf k) ss ds (h .pose) x (t .radius) (heldCache n (keeps h (t .used)) (out ++ drop m l))) renew-matches
-      ∙ ap (λ (x : Float). searched (fixedOf k) ss ds (h .pose) (clipped rs (statistics rs) (heldMatches h l)) x (heldCache n (keeps h (t .used)) (out ++ drop m l))) renew-radius
+      ap (λ (x : List ℕ). searched (fixedOf k) ss ds (h .pose) x (t .radius) (heldCache n (withUsed h (t .used)) (out ++ drop m l))) renew-matches
+      ∙ ap (λ (x : Float). searched (fixedOf k) ss ds (h .pose) (clipped rs (statistics rs) (heldMatches h l)) x (heldCache n (withUsed h (t .used)) (out ++ drop m l))) renew-radius
       ∙ ap (searched (fixedOf k) ss ds (h .pose) (clipped rs (statistics rs) (heldMatches h l)) (adaptivePx (fixedOf k) (statistics rs))) renew-cache
 
-  pub renewed : (after : List ℕ) (s : Sought) {h' : Held} → h' ≡ keeps h (t .used) → SearchedTo k n ss ds h' (t .radius) (out ++ drop m l) after s → RestTo k n ss ds h l after s
+  pub renewed : (after : List ℕ) (s : Sought) {h' : Held} → h' ≡ withUsed h (t .used) → SearchedTo k n ss ds h' (t .radius) (out ++ drop m l) after s → RestTo k n ss ds h l after s
   renewed after s e c =
-      let g : SearchedTo k n ss ds (keeps h (t .used)) (t .radius) (out ++ drop m l) after s = subst (λ (x : Held). SearchedTo k n ss ds x (t .radius) (out ++ drop m l) after s) e c in
+      let g : SearchedTo k n ss ds (withUsed h (t .used)) (t .radius) (out ++ drop m l) after s = subst (λ (x : Held). SearchedTo k n ss ds x (t .radius) (out ++ drop m l) after s) e c in
       record {
         next = g .next ∙ ap (λ (x : Found). x .next) renew-rest;
         count = g .count ∙ ap (λ (x : Found). length (x .queries)) renew-rest;

@@ -14,7 +14,6 @@ use Rattle.matching.specs.Greedy.{flat, matchesOf, capacity}
 use Rattle.wcs_refine.specs.Associate.{Link, links, sameMatches}
 use Rattle.wcs_refine.specs.Listing.{renamedBy}
 use Rattle.wcs_refine.specs.declared.associating.Tally.{Tally}
-use Rattle.wcs_refine.specs.declared.keeping.Held.{Held}
 
 abbrev pub linkOf : ℕ → ℕ → Link
 linkOf s d = record { spot = s; direction = d }
@@ -98,7 +97,3 @@ pub record FoundTo (n q : ℕ) (spots : List Float) (limit : ℕ) (r : Float) (f
       → (f .count ≡ length (matchesOf spots limit (slice (2 * n) (2 * n + 2 * q) floats) (r ⊗ r)))
       × NewAt n (f .within) (f .count)
       (renamedBy (slice (3 * n) (3 * n + q) before) (flat (matchesOf spots limit (slice (2 * n) (2 * n + 2 * q) floats) (r ⊗ r)))) before after
-
--- The same state with so many matches.
-abbrev pub heldWith : Held → ℕ → Held
-heldWith h t = record { pose = h .pose; used = t; filled = h .filled; boresight = h .boresight; theta = h .theta; cached = h .cached }

@@ -42,6 +42,10 @@ heldMatches h l = take (2 * h .used) l
 abbrev pub heldState : ℕ → Held → List ℕ → State
 heldState n h l = record { pose = h .pose; matches = heldMatches h l; cache = heldCache n h l }
 
+-- The same state with another count of matches.
+abbrev pub withUsed : Held → ℕ → Held
+withUsed h n = record { pose = h .pose; used = n; filled = h .filled; boresight = h .boresight; theta = h .theta; cached = h .cached }
+
 -- ---- what every step is lent
 
 -- The count of directions is that of their list, and each of the sixteen regions of the working lists has room for all of them.

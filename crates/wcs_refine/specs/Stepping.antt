@@ -20,12 +20,9 @@ use Rattle.wcs_refine.specs.declared.keeping.Verdict.the-variants.{GoOn,
 use Rattle.wcs_refine.specs.declared.searching.Sought.{Sought}
 use Rattle.wcs_refine.specs.declared.rounds.Trimmed.{Trimmed}
 
--- A state at another pose, and with another count of matches.
+-- A state at another pose.
 abbrev pub posed : Held → Pose → Held
 posed h p = record { pose = p; used = h .used; filled = h .filled; boresight = h .boresight; theta = h .theta; cached = h .cached }
-
-abbrev pub keeps : Held → ℕ → Held
-keeps h n = record { pose = h .pose; used = n; filled = h .filled; boresight = h .boresight; theta = h .theta; cached = h .cached }
 
 -- Whether the rounds end with a verdict, and the number of its refusal, else 0.
 unfoldable pub stopped : Verdict → Bool

@@ -13,7 +13,7 @@ use fit::Pose;
 pub(crate) fn refused(number: usize) -> WcsRefineResult
     ensures { λ r. ⌜ r ≡ refusedWith number ⌝ }
 {
-    let pose = Pose {
+    let nowhere = Pose {
         theta: 0.0,
         ra: 0.0,
         dec: 0.0,
@@ -25,7 +25,7 @@ pub(crate) fn refused(number: usize) -> WcsRefineResult
         rounds: 0,
         passes: 0,
         queries: 0,
-        pose,
+        pose: nowhere,
         cd0: [0.0, 0.0],
         cd1: [0.0, 0.0],
         rmse_rad: 0.0,

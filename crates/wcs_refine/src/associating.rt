@@ -5,10 +5,11 @@ ghost use Prim.Native.Nat.{_+_, _*_, _/_, _≤_, min};
 ghost use lib.ListN.{length, drop};
 ghost use lib.Seq.{slice};
 ghost use Rattle.wcs_refine.specs.Keeping.{Matchable, Fits, AssociatedTo};
-ghost use Rattle.wcs_refine.specs.Comparing.{FoundTo, heldWith};
+ghost use Rattle.wcs_refine.specs.Comparing.{FoundTo};
 use crate::comparing::same_matches;
 use crate::keeping::Held;
 use crate::keeping::Verdict;
+use crate::keeping::with_used;
 use crate::rename::renamed_into;
 use entry::Settings;
 use matching::Matched;
@@ -93,21 +94,6 @@ fn bring_forward(numbers: &mut [usize], from: usize, n: usize)
 }
 
 // The state with t matches, its pose and its cached query as they are.
-fn held_with(h: Held, t: usize) -> Held
-    ensures { λ r. ⌜ r ≡ heldWith h t ⌝ }
-{
-    let pose = h.pose;
-    let boresight = h.boresight;
-    Held {
-        pose,
-        used: t,
-        filled: h.filled,
-        boresight,
-        theta: h.theta,
-        cached: h.cached,
-    }
-}
-
 // The first q predictions stand in their regions. Matches that differ from the present ones, at least four, take their place.
 pub(crate) fn associate(
     spots: &[f64],
@@ -155,7 +141,7 @@ pub(crate) fn associate(
         };
     }
     bring_forward(numbers, 8 * room, 2 * t);
-    let next = held_with(held, t);
+    let next = with_used(held, t);
     Step {
         held: next,
         verdict: Verdict::GoOn,

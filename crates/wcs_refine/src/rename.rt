@@ -1,4 +1,4 @@
-// The matcher's matches by their directions, and whether they are those of the round before.
+// The matcher's matches by their directions.
 ghost use mathlib.Core.Path.{_≡_};
 ghost use mathlib.Core.Logic.{_⊎_};
 ghost use mathlib.Core.List.{_++_};

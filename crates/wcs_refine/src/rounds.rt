@@ -6,9 +6,10 @@ ghost use Rattle.entry.specs.Entry.{fixedOf};
 ghost use Rattle.wcs_refine.specs.Associate.{adaptivePx};
 ghost use Rattle.wcs_refine.specs.Passing.{statsOf};
 ghost use Rattle.wcs_refine.specs.Keeping.{Ready, Fits, RoundTo, RanTo};
-ghost use Rattle.wcs_refine.specs.Stepping.{posed, keeps, stopped, refusalOf, TrimmedTo, RestTo};
+ghost use Rattle.wcs_refine.specs.Stepping.{posed, stopped, refusalOf, TrimmedTo, RestTo};
 use crate::keeping::Held;
 use crate::keeping::Verdict;
+use crate::keeping::with_used;
 use crate::passing::Stats;
 use crate::passing::clip_round;
 use crate::passing::compute_stats;
@@ -79,22 +80,6 @@ fn pose_at(h: Held, pose: Pose) -> Held
     }
 }
 
-// The state with another count of matches.
-fn keep(h: Held, used: usize) -> Held
-    ensures { λ r. ⌜ r ≡ keeps h used ⌝ }
-{
-    let pose = h.pose;
-    let boresight = h.boresight;
-    Held {
-        pose,
-        used,
-        filled: h.filled,
-        boresight,
-        theta: h.theta,
-        cached: h.cached,
-    }
-}
-
 // Whether the rounds end here.
 fn stops(v: Verdict) -> bool
     ensures { λ r. ⌜ r ≡ stopped v ⌝ }
@@ -155,7 +140,7 @@ fn renew(
     let to = 2 * held.used;
     let pose = held.pose;
     let t = trim(&mut numbers[0..to], floats, directions, spots, pose, k);
-    let kept = keep(held, t.used);
+    let kept = with_used(held, t.used);
     search(
         spots,
         directions,

@@ -102,8 +102,8 @@ bring-forward-requires c κs =
     let a = s .args in
     can-bring (a .k) (a .room) (a .q) (a .spots .now) (a .floats .now) (a .distances .now) (a .indices .now) (a .numbers .now) (a .held) (a .r) _ (g .find .result) (s .pre .0) (s .pre .1) (s .pre .2) (g .find .ensures) (c .before .before .before .before .before .before .before .if1 .left) (c .before .before .before .before .same-matches .ensures)
 
-held-with-requires : tie.Need-held-with-requires
-held-with-requires c κs = search needs
+with-used-requires : tie.Need-with-used-requires
+with-used-requires c κs = search needs
 
 same-length-10 : tie.Need-same-length-10
 same-length-10 c = search needs
@@ -119,7 +119,7 @@ returns-4 c =
     let g = c .before .before .before .before .before .before .before .before .before .before .before .before .before .before .before .before .before .before in
     let s = g .before .before .before .before .before .before .before .before .before in
     let a = s .args in
-    taken (a .k) (a .room) (a .q) (a .spots .now) (a .floats .now) (a .distances .now) (a .indices .now) (a .numbers .now) (a .held) (a .r) _ (g .find .result) (s .pre .0) (s .pre .1) (s .pre .2) (g .find .ensures) (c .before .before .before .before .before .before .before .before .before .before .before .if1 .left) (c .before .before .before .before .before .before .before .before .same-matches .ensures) (c .before .before .before .before .before .if3 .left) (c .before .before .before .before .before .before .before .before .before .before .if2 .left) (c .before .before .before .bring-forward .ensures) (c .held-with .ensures)
+    taken (a .k) (a .room) (a .q) (a .spots .now) (a .floats .now) (a .distances .now) (a .indices .now) (a .numbers .now) (a .held) (a .r) _ (g .find .result) (s .pre .0) (s .pre .1) (s .pre .2) (g .find .ensures) (c .before .before .before .before .before .before .before .before .before .before .before .if1 .left) (c .before .before .before .before .before .before .before .before .same-matches .ensures) (c .before .before .before .before .before .if3 .left) (c .before .before .before .before .before .before .before .before .before .before .if2 .left) (c .before .before .before .bring-forward .ensures) (c .with-used .ensures)
 
 pub associate-spec : {M : Type 1} → statement M
 associate-spec =
@@ -144,7 +144,7 @@ associate-spec =
     mul-bring-forward
     mul-bring-forward-2
     bring-forward-requires
-    held-with-requires
+    with-used-requires
     same-length-10
     same-length-11
     same-length-12

@@ -23,8 +23,8 @@ part-trim-end c = search needs
 trim-requires : tie.Need-trim-requires
 trim-requires c κs = search needs
 
-keep-requires : tie.Need-keep-requires
-keep-requires c κs = search needs
+with-used-requires : tie.Need-with-used-requires
+with-used-requires c κs = search needs
 
 search-requires : tie.Need-search-requires
 search-requires c κs =
@@ -33,7 +33,7 @@ search-requires c κs =
     let t = c .before .before .before .before .before .before .before .before .before .trim in
     let m = 2 * a .held .used - 0 in
     let whole : m ≡ 2 * a .held .used = omega arith in
-    let d = c .before .before .before .before .keep in
+    let d = c .before .before .before .before .with-used in
     let r = s .pre .0 in
     let same = renew-length (a .k) (a .room) (a .spots .now) (a .directions .now) (a .held) (a .numbers .now) m _ (t .result) (s .pre .1) (r .roomy .many) whole (t .kept .0) (t .ensures) in (
       record {
@@ -63,7 +63,7 @@ returns c =
     let m = 2 * a .held .used - 0 in
     let whole : m ≡ 2 * a .held .used = omega arith in
     renewed (a .k) (a .room) (a .spots .now) (a .directions .now) (a .held) (a .numbers .now) m _ (t .result) (s .pre .1) (s .pre .0 .roomy .many) whole (t .kept .0) (t .ensures)
-    _ _ (c .before .before .before .before .before .before .before .before .before .before .before .before .before .keep .ensures) (c .before .before .before .before .before .before .before .before .search .ensures)
+    _ _ (c .before .before .before .before .before .before .before .before .before .before .before .before .before .with-used .ensures) (c .before .before .before .before .before .before .before .before .search .ensures)
 
 pub renew-spec : {M : Type 1} → statement M
 renew-spec =
@@ -74,7 +74,7 @@ renew-spec =
     part-trim-start
     part-trim-end
     trim-requires
-    keep-requires
+    with-used-requires
     search-requires
     same-length
     same-length-2

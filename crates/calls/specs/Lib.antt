@@ -1,0 +1,9 @@
+pub mod Arithmetic
+pub mod Instance
+pub mod Steps
+pub mod FarTurn
+pub mod ManyPairs
+pub mod SecondQuery
+pub mod OneClip
+pub mod LastClip
+pub mod Calls

@@ -1,0 +1,16 @@
+// Tries the refinement call at both sides of its bounds, and tries, premise by premise, the theorem about two calls. One line a trial.
+mod bounds; // bounds.rt: refusals 5 to 11
+mod pairs; // pairs.rt: two calls that differ
+mod tell; // tell.rt: what is written
+
+fn main() {
+    bounds::even();
+    bounds::few();
+    bounds::scale();
+    bounds::radius();
+    bounds::coordinates();
+    bounds::components();
+    bounds::named();
+    bounds::long();
+    pairs::all();
+}
