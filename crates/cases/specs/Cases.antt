@@ -21,6 +21,9 @@ use Rattle.fit.specs.declared.Solution.{Solution}
 use Rattle.fit.specs.declared.Solution.the-variants.{Solved, Failed}
 use Rattle.fit.specs.declared.Clip.{Clip}
 use Rattle.fit.specs.declared.Clip.the-variants.{Kept, Unchanged}
+use Rattle.record.specs.Number.{written, number}
+use Rattle.record.specs.declared.Numbered.{Numbered}
+use Rattle.record.specs.declared.Numbered.the-variants.{Got, Short, Wrong}
 
 -- whole numbers as floats
 abbrev f1 : Float
@@ -65,6 +68,12 @@ abbrev clipped : List Float → Clipped
 clipped rs = madClipMatches rs six (medianMadSigma rs .median) (medianMadSigma rs .sigma)
 
 pub record Cases : Type 0 where
+  -- "127 is 7F; 128 is 80 01; 80 00 is refused (3)."
+  pub one-byte : written 127 ≡ 0x7F ∷ []
+  pub one-byte-read : number 32 (0x7F ∷ []) ≡ Got 127 1
+  pub two-bytes : written 128 ≡ 0x80 ∷ 0x01 ∷ []
+  pub two-bytes-read : number 32 (0x80 ∷ 0x01 ∷ []) ≡ Got 128 2
+  pub not-shortest : number 32 (0x80 ∷ 0x00 ∷ []) ≡ Wrong
   -- "Root of 2 is 3FF6A09E667F3BCD, of −0 is −0, of 2^-1074 is 2^-537; of −1, NaN."
   pub root-of-2 : toBits binary64 (root binary64 f2) ≡ 0x3FF6A09E667F3BCD
   pub root-of-minus-0 : root binary64 (fin true 0 (pos 0)) ≡ fin true 0 (pos 0)
@@ -87,8 +96,13 @@ pub record Cases : Type 0 where
   pub too-far : matchesOf (zero64 ∷ zero64 ∷ f3 ∷ zero64 ∷ []) 2 (f2 ∷ zero64 ∷ []) (f64 0x3FE0000000000000) ≡ []
 
 pub cases : Cases
-unfolding root rootOf place wholeRoot rootDigits narrowed units odd round size span climb sum add sub mul div neg lt le eq isNan ofFields ofBits toBits ofInt absF isFinite totalKey totalLe medianMadSigma middle sorted insert deviations pairs pairsFrom pairsOf within squared pointAt merged mergeRuns mergeNeighbours merge into singles notAfter matchesOf assigned clashes solve3x3 solvedFrom substituted divides ifFinite solutionX solutionY solutionZ eliminated reduced minusFrom swapped usable pivotOf bestFrom better beside madClipMatches kept keptFrom keeps thresholdOf
+unfolding written number root rootOf place wholeRoot rootDigits narrowed units odd round size span climb sum add sub mul div neg lt le eq isNan ofFields ofBits toBits ofInt absF isFinite totalKey totalLe medianMadSigma middle sorted insert deviations pairs pairsFrom pairsOf within squared pointAt merged mergeRuns mergeNeighbours merge into singles notAfter matchesOf assigned clashes solve3x3 solvedFrom substituted divides ifFinite solutionX solutionY solutionZ eliminated reduced minusFrom swapped usable pivotOf bestFrom better beside madClipMatches kept keptFrom keeps thresholdOf
 cases = record {
+  one-byte = refl;
+  one-byte-read = refl;
+  two-bytes = refl;
+  two-bytes-read = refl;
+  not-shortest = refl;
   root-of-2 = refl;
   root-of-minus-0 = refl;
   root-of-least = refl;

@@ -1,0 +1,4 @@
+pub mod Pushes
+pub mod Digits
+pub mod LineText
+pub mod AnswerText

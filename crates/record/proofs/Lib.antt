@@ -1,0 +1,10 @@
+pub mod NumberSteps
+pub mod KnownSteps
+pub mod HeadSteps
+pub mod RunSteps
+pub mod WholeSteps
+pub mod IntakeSteps
+pub mod Laws
+pub mod NumberLaws
+pub mod RecordLaws
+pub mod Layouts

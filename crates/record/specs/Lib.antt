@@ -1,0 +1,6 @@
+pub mod Number
+pub mod Layout
+pub mod Reading
+pub mod Claims
+pub mod Header
+pub mod Passes

@@ -1,0 +1,85 @@
+/* Raqembu: pose refinement for flat-panel X-ray detectors.
+ *
+ * Every list passes as a pointer to its first place and the number of its places. Lists do not overlap. Nothing is allocated, nothing is
+ * kept between calls, no function has global state, and each answers after finitely many steps whatever the lists hold. size_t has 64 bits.
+ *
+ * A refinement call is refused with one of these numbers, the first that applies:
+ *    5  a flat list does not divide evenly: spots by 2, matches by 2, directions by 3
+ *    6  more than 4,096 spots, 4,096 matches, 65,536 directions or 64 rounds
+ *    7  the pixel scale is not within 2^-30 to 1 radian per pixel
+ *    8  the match radius is not within 2^-30 to 1 radian
+ *    9  a spot coordinate is not within +-2^20, or a direction component or rotation entry not within +-2; NaN and infinities are outside
+ *   10  a starting match names a spot or direction that is not in its list
+ *   11  a working list is shorter than 16 x (spots + matches + directions), or the result list than twice the larger of the number of
+ *       matches and min(spots, matching limit); or a record counts more than the lists it is read into hold
+ *   12  after an update of theta, RA or Dec, one is not finite or exceeds 1,024 in absolute value
+ *   13  a round finds more pairs within its radius than the candidate lists hold: half the places of `distances` or a quarter of those of
+ *       `indices`, whichever is less
+ * and a record with one of these, before them:
+ *    1  it is longer than 65,536 bytes
+ *    2  it ends inside a number or before its last number
+ *    3  a number is not in its shortest form or exceeds its field
+ *    4  bytes follow the last number
+ */
+#ifndef RAQEMBU_H
+#define RAQEMBU_H
+
+#include <stdbool.h>
+#include <stddef.h>
+#include <stdint.h>
+
+#ifdef __cplusplus
+extern "C" {
+#endif
+
+/* Refines a pose. Returns 0, or the number of the refusal.
+ *
+ * spots: x, y of each. matches: spot, direction of each starting match. directions: three components of each. rotation: nine entries, by rows.
+ * scale: radians per pixel. mirror: the image is mirrored. radius: of matching, in radians. limit: only the first so many spots are matched.
+ * numbers, floats: working lists. distances, indices: room for candidate pairs. result: takes the matches, spot then direction.
+ * counts: 4 places for matches, rounds, fit passes, queries. values: 18 places for theta, RA, Dec, scale; the matrix by rows; the error (rms, in
+ * radians); the covariance of theta and the two offsets of the boresight, by rows. Shorter lists take as many as they have places.
+ *
+ * Refused with 5 to 11, all lists are as they came. Refused with 12 or 13, `result` is as it came and the working and candidate lists are zero.
+ * Accepted, `result` starts with the matches and is unchanged after them, and the working and candidate lists are zero. counts and values
+ * are zero where the call is refused. */
+size_t raqembu_wcs_refine(
+    const double *spots, size_t spots_len,
+    const size_t *matches, size_t matches_len,
+    const float *directions, size_t directions_len,
+    const float *rotation, size_t rotation_len,
+    double scale, bool mirror, float radius, size_t limit, size_t rounds,
+    size_t *numbers, size_t numbers_len,
+    double *floats, size_t floats_len,
+    double *distances, size_t distances_len,
+    size_t *indices, size_t indices_len,
+    size_t *result, size_t result_len,
+    size_t *counts, size_t counts_len,
+    double *values, size_t values_len);
+
+/* Matches spots with predictions (x, y of each), nearest pairs first, each at most once. Returns how many matches stand in `work` after its
+ * marks, one mark for each spot within max_points and each prediction; RAQEMBU_TOO_MANY where there are more pairs than the candidate lists
+ * hold; RAQEMBU_SHORT where `work` is too short, and then nothing is written. */
+#define RAQEMBU_TOO_MANY SIZE_MAX
+#define RAQEMBU_SHORT (SIZE_MAX - 1)
+size_t raqembu_greedy_unique_matches(
+    const double *points, size_t points_len, size_t max_points,
+    const double *predicted, size_t predicted_len, double radius_sq,
+    double *distances, size_t distances_len,
+    size_t *indices, size_t indices_len,
+    size_t *work, size_t work_len);
+
+/* Median and 1.4826 times the median absolute deviation, into the first two places of `out`. vals is left zero. */
+void raqembu_median_mad_sigma(double *vals, size_t vals_len, double *out, size_t out_len);
+
+/* Square root and narrowing to nearest, ties to even, as IEEE 754 has them. */
+double raqembu_sqrt64(double x);
+float raqembu_sqrt32(float x);
+float raqembu_narrow(double x);
+double raqembu_widen(float x);
+
+#ifdef __cplusplus
+}
+#endif
+
+#endif
