@@ -6,7 +6,7 @@ use std::collections::BTreeMap;
 use std::hint::black_box;
 use std::time::Instant;
 
-use exposures::{record, rng::Rng};
+use exposures::{field::Plan, record, rng::Rng};
 use linked::{refine, Lists, Said};
 use reference::answer::bits;
 use reference::call::{self, Answer, Lent, Prepared};
@@ -172,17 +172,17 @@ fn time(name: &str, e: &Exposure, pairs: usize, runs: usize) {
     );
 }
 
-/// The first records of a kind whose counts of spots and directions are as asked and whose run has some rounds.
-fn times(seed: u64, kind: &str, spots: usize, directions: usize, pairs: usize, runs: usize) {
-    let (mut told, mut item) = (0, 0);
-    while told < 4 && item < 400_000 {
-        let bytes = record(seed, item, Some(kind)).unwrap().1;
-        item += 1;
-        let Ok(e) = read_any(&bytes) else { continue };
-        if e.spots.len() / 2 >= spots && e.directions.len() / 3 >= directions && e.rounds > 0 {
-            time(&format!("{kind} {}", item - 1), &e, pairs, runs);
-            told += 1;
-        }
+/// Exposures of a given size: `dark` directions lie in the field without a spot, `elsewhere` anywhere on the sphere.
+fn times(name: &str, sizes: [usize; 4], pairs: usize, runs: usize) {
+    for item in 0..3 {
+        let mut r = Rng::new(77, item);
+        let mut p = Plan::ordinary(&mut r);
+        [p.pairs, p.strays, p.dark, p.elsewhere] = sizes;
+        (p.scale, p.half, p.radius, p.noise) = (1.0 / 16384.0, 1000.0, 6.0, 0.5);
+        (p.matches, p.wrong, p.outliers, p.far_off) = (p.pairs / 2, p.pairs / 20, p.pairs / 20, 4.0);
+        (p.limit, p.rounds) = (u32::MAX, 64);
+        let e = read_any(&p.take(&mut r).bytes()).unwrap();
+        time(&format!("{name} {item}"), &e, pairs, runs);
     }
 }
 
@@ -209,7 +209,8 @@ fn main() {
         compare(seed, full, Some("full-size"), 1 << 20);
     }
     if timed {
-        times(seed, "field", 60, 200, 2048, 500);
-        times(seed, "full-size", 4000, 60000, 1 << 20, 8);
+        times("64 / 256", [48, 16, 100, 108], 2048, 2000);
+        times("4,096 / 65,536, whole sphere", [3000, 1096, 2000, 60_536], 1 << 20, 6);
+        times("4,096 / 65,536, one field", [3000, 1096, 62_536, 0], 1 << 20, 2);
     }
 }
