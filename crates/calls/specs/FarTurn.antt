@@ -8,12 +8,12 @@ use lib.ListN.{replicate}
 use lib.Ieee.{Float}
 use Rattle.rounding.specs.Arith.{f64, zero64, one64}
 use Rattle.stats.specs.declared.MedianSigma.{MedianSigma}
-use Rattle.fit.specs.Camera.{boresight, cameraRows}
+use Rattle.project.specs.Camera.{boresight, cameraRows}
 use Rattle.fit.specs.Rows.{Row, rowOf, rows, View, viewOf}
 use Rattle.fit.specs.Normal.{noMatches, withRows, normalMatrix, solvedSums}
 use Rattle.fit.specs.Residual.{residuals, inFront, madClipMatches}
-use Rattle.fit.specs.Covariance.{covarianceFromNormal}
-use Rattle.fit.specs.Project.{cdFromTheta}
+use Rattle.solve.specs.Covariance.{covarianceFromNormal}
+use Rattle.project.specs.Project.{cdFromTheta}
 use Rattle.fit.specs.declared.Pose.{Pose}
 use Rattle.fit.specs.declared.Counted.{Counted}
 use Rattle.fit.specs.declared.Clip.the-variants.{Kept, Unchanged}

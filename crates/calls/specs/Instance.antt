@@ -10,9 +10,9 @@ use lib.Dec.{ltb}
 use lib.ListN.{replicate, length}
 use lib.Ieee.{Float, neg, lt}
 use Rattle.rounding.specs.Arith.{f64, zero64, one64}
-use Rattle.fit.specs.Covariance.{unconstrained}
+use Rattle.solve.specs.Covariance.{unconstrained}
 use Rattle.fit.specs.Rows.{spotAt, directionAt}
-use Rattle.fit.specs.Vector.{at}
+use Rattle.solve.specs.Vector.{at}
 use Rattle.fit.specs.declared.Spot.{Spot}
 use Rattle.entry.specs.Arguments.{Call, Given, Lent, directionCount, spotCount}
 use Rattle.entry.specs.Check.{between, every}

@@ -8,8 +8,8 @@ use lib.Dec.{leb}
 use lib.Ieee.{Float}
 use lib.ListN.{length}
 use Rattle.rounding.specs.Arith.{zero64}
-use Rattle.fit.specs.Constants.{planeCut}
-use Rattle.fit.specs.Vector.{row}
+use Rattle.solve.specs.Constants.{planeCut}
+use Rattle.solve.specs.Vector.{row}
 use Rattle.entry.specs.Arguments.{Call}
 use Rattle.entry.specs.Check.{divides, few, scaleFits, radiusFits, numbersFit, long, refusal, rotationFits}
 use Rattle.entry.specs.Fixed.{Fixed, fixed, farthest}

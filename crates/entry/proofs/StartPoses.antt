@@ -9,9 +9,9 @@ use Rattle.rounding.specs.Arith.{_⊗_, zero64, one64}
 use Rattle.rounding.specs.Methods.{maxF, clampF}
 use Rattle.angles.specs.SinCos.{sin, cos}
 use Rattle.angles.specs.Inverse.{asin, atan2}
-use Rattle.fit.specs.Constants.{minusOne}
-use Rattle.fit.specs.Vector.{at, row, entry, dot}
-use Rattle.fit.specs.Camera.{east, north}
+use Rattle.solve.specs.Constants.{minusOne}
+use Rattle.solve.specs.Vector.{at, row, entry, dot}
+use Rattle.project.specs.Camera.{east, north}
 use Rattle.fit.specs.Rows.{spotAt}
 use Rattle.fit.specs.declared.Pose.{Pose}
 use Rattle.entry.specs.Arguments.{Given}

@@ -6,7 +6,7 @@ use lib.Dec.{leb, ltb, eqb}
 use lib.ListN.{length, getD}
 use lib.Ieee.{Float, nan, neg, le}
 use Rattle.rounding.specs.Arith.{f64, one64}
-use Rattle.fit.specs.Vector.{entry}
+use Rattle.solve.specs.Vector.{entry}
 use Rattle.entry.specs.Arguments.{Call, spotCount, matchCount, directionCount, workPlaces, resultPlaces}
 
 -- ---- the bounds; ranges include both ends

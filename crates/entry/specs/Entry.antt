@@ -7,7 +7,7 @@ use lib.Dec.{leb, eqb}
 use lib.ListN.{length}
 use lib.Ieee.{Float}
 use Rattle.rounding.specs.Arith.{one64}
-use Rattle.fit.specs.Vector.{at}
+use Rattle.solve.specs.Vector.{at}
 use Rattle.entry.specs.Arguments.{Call}
 use Rattle.entry.specs.Check.{mostSpots, mostMatches, mostDirections, mostRounds, least, between, lawfulCoordinate, lawfulComponent, every, rotationFits, named}
 use Rattle.entry.specs.Fixed.{Fixed}

@@ -11,9 +11,9 @@ use Rattle.rounding.specs.Methods.{maxF, clampF}
 use Rattle.angles.specs.SinCos.{cos}
 use Rattle.angles.specs.Inverse.{asin, atan2}
 use Rattle.matching.specs.Greedy.{capacity}
-use Rattle.fit.specs.Constants.{planeCut, minusOne, two, clipNsigma}
-use Rattle.fit.specs.Vector.{row, entry, dot}
-use Rattle.fit.specs.Camera.{east, north}
+use Rattle.solve.specs.Constants.{planeCut, minusOne, two, clipNsigma}
+use Rattle.solve.specs.Vector.{row, entry, dot}
+use Rattle.project.specs.Camera.{east, north}
 use Rattle.fit.specs.Rows.{spotAt}
 use Rattle.fit.specs.declared.Spot.{Spot}
 use Rattle.fit.specs.declared.Pose.{Pose}

@@ -8,11 +8,11 @@ use native.Mathlib.Omega.{arith}
 use lib.Ieee.{Float, eq}
 use lib.ListN.{getD, length, take, drop, set, take-append-drop}
 use lib.Seq.{take-nil, drop-nil}
-use Rattle.fit.specs.Camera.{tanProjectVec}
-use Rattle.fit.specs.Constants.{minusOne}
+use Rattle.project.specs.Camera.{tanProjectVec}
+use Rattle.solve.specs.Constants.{minusOne}
 use Rattle.fit.specs.Residual.{apart, residualOf, residuals, over, inFront}
 use Rattle.fit.specs.Rows.{View, rowOf, spotAt, directionAt, rowAt, rowsFrom}
-use Rattle.fit.specs.declared.Projected.{Projected}
+use Rattle.project.specs.declared.Projected.{Projected}
 use Rattle.fit.specs.declared.Spot.{Spot}
 use Rattle.fit.proofs.Lookup.{rows-next, rows-none}
 

@@ -12,7 +12,7 @@ use lib.Seq.{take-suc, take-at, drop-at, drop-cons, set-at, getD-take, length-ta
 use Rattle.rounding.specs.Arith.{zero64}
 use Rattle.stats.specs.Median.{medianMadSigma, Summarised}
 use Rattle.stats.specs.declared.MedianSigma.{MedianSigma}
-use Rattle.fit.specs.Constants.{minusOne}
+use Rattle.solve.specs.Constants.{minusOne}
 use Rattle.fit.specs.Residual.{inFront, residualMedianSigma, Measured}
 
 picked : (b : Bool) (x : Float) (xs ys : List Float) → cond b (xs ++ ys) (x ∷ (xs ++ ys)) ≡ cond b xs (x ∷ xs) ++ ys

@@ -1,5 +1,3 @@
-pub mod Trig
-pub mod Elimination
 pub mod Lookup
 pub mod Summing
 pub mod Distances

@@ -6,7 +6,7 @@ use native.Mathlib.Numerals.{add-one}
 use native.Mathlib.Omega.{arith}
 use lib.Ieee.{Float, nan}
 use lib.ListN.{getD, length, List·getD-eq-default}
-use Rattle.fit.specs.Camera.{tanBasis}
+use Rattle.project.specs.Camera.{tanBasis}
 use Rattle.fit.specs.Rows.{spotAt, directionAt, rowAt, rowsFrom, viewOf, viewAt, turnOf}
 use Rattle.fit.specs.declared.Pose.{Pose}
 use Rattle.fit.specs.declared.Turn.{Turn}

@@ -6,13 +6,13 @@ use Prim.Native.Nat.{ℕ, _+_, _-_, _*_, _≤_, _<_}
 use native.Mathlib.Omega.{arith}
 use lib.Ieee.{Float}
 use lib.ListN.{getD}
-use Rattle.fit.specs.Camera.{tanProjectVec}
+use Rattle.project.specs.Camera.{tanProjectVec}
 use Rattle.fit.specs.Normal.{accumulateNormalEquations, rightSide, withMatch, withRow, withRows}
 use Rattle.fit.specs.Rows.{Row, View, rowOf, spotAt, directionAt, rowAt, rowsFrom}
 use Rattle.fit.specs.declared.Counted.{Counted}
-use Rattle.fit.specs.declared.Plane.{Plane}
-use Rattle.fit.specs.declared.Projected.{Projected}
-use Rattle.fit.specs.declared.Projected.the-variants.{At, Behind}
+use Rattle.project.specs.declared.Plane.{Plane}
+use Rattle.project.specs.declared.Projected.{Projected}
+use Rattle.project.specs.declared.Projected.the-variants.{At, Behind}
 use Rattle.fit.specs.declared.Spot.{Spot}
 use Rattle.fit.specs.declared.Sums.{Sums}
 use Rattle.fit.proofs.Lookup.{rows-next, rows-none}

@@ -1,9 +1,3 @@
-pub mod Constants
-pub mod Vector
-pub mod Project
-pub mod Camera
-pub mod Solve
-pub mod Covariance
 pub mod Rows
 pub mod Normal
 pub mod Residual

@@ -5,20 +5,20 @@ use mathlib.Core.List.{List, [], _∷_}
 use lib.Dec.{ltb}
 use lib.Ieee.{Float, neg}
 use Rattle.rounding.specs.Arith.{_⊕_, _⊖_, _⊗_, zero64, one64}
-use Rattle.fit.specs.Vector.{at}
-use Rattle.fit.specs.Project.{predictTanplane}
-use Rattle.fit.specs.Camera.{tanProjectVec}
-use Rattle.fit.specs.Solve.{solve3x3}
+use Rattle.solve.specs.Vector.{at}
+use Rattle.project.specs.Project.{predictTanplane}
+use Rattle.project.specs.Camera.{tanProjectVec}
+use Rattle.solve.specs.Solve.{solve3x3}
 use Rattle.fit.specs.Rows.{Row, View}
 use Rattle.fit.specs.declared.Pose.{Pose}
 use Rattle.fit.specs.declared.Spot.{Spot}
-use Rattle.fit.specs.declared.Projected.{Projected}
-use Rattle.fit.specs.declared.Projected.the-variants.{At, Behind}
-use Rattle.fit.specs.declared.Plane.{Plane}
+use Rattle.project.specs.declared.Projected.{Projected}
+use Rattle.project.specs.declared.Projected.the-variants.{At, Behind}
+use Rattle.project.specs.declared.Plane.{Plane}
 use Rattle.fit.specs.declared.Sums.{Sums}
 use Rattle.fit.specs.declared.Counted.{Counted}
-use Rattle.fit.specs.declared.Solution.{Solution}
-use Rattle.fit.specs.declared.Solution.the-variants.{Solved, Failed}
+use Rattle.solve.specs.declared.Solution.{Solution}
+use Rattle.solve.specs.declared.Solution.the-variants.{Solved, Failed}
 
 -- The derivatives by theta of the plane point of a spot.
 unfoldable pub xiTheta : Float → Float → Float → Float → Float → Float

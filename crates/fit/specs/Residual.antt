@@ -12,13 +12,13 @@ use Rattle.rounding.specs.Arith.{_⊕_, _⊖_, _⊗_, zero64}
 use Rattle.rounding.specs.Root.{root}
 use Rattle.stats.specs.Median.{medianMadSigma}
 use Rattle.stats.specs.declared.MedianSigma.{MedianSigma}
-use Rattle.fit.specs.Constants.{clipNsigma, minusOne}
-use Rattle.fit.specs.Project.{predictTanplane}
-use Rattle.fit.specs.Camera.{tanProjectVec}
+use Rattle.solve.specs.Constants.{clipNsigma, minusOne}
+use Rattle.project.specs.Project.{predictTanplane}
+use Rattle.project.specs.Camera.{tanProjectVec}
 use Rattle.fit.specs.Rows.{Row, View}
 use Rattle.fit.specs.declared.Spot.{Spot}
-use Rattle.fit.specs.declared.Projected.{Projected}
-use Rattle.fit.specs.declared.Projected.the-variants.{At, Behind}
+use Rattle.project.specs.declared.Projected.{Projected}
+use Rattle.project.specs.declared.Projected.the-variants.{At, Behind}
 use Rattle.fit.specs.declared.Clip.{Clip}
 use Rattle.fit.specs.declared.Clip.the-variants.{Kept, Unchanged}
 

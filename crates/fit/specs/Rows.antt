@@ -7,7 +7,7 @@ use lib.Ieee.{Float, nan}
 use Rattle.fit.specs.declared.Pose.{Pose}
 use Rattle.fit.specs.declared.Spot.{Spot}
 use Rattle.fit.specs.declared.Turn.{Turn}
-use Rattle.fit.specs.Camera.{tanBasis}
+use Rattle.project.specs.Camera.{tanBasis}
 use Rattle.angles.specs.SinCos.{sin, cos}
 
 -- A spot and a direction, by value. Past the end of its list each number reads as NaN.

@@ -3,24 +3,24 @@ ghost use mathlib.Core.Path.{_≡_};
 ghost use mathlib.Core.List.{List, [], _∷_};
 ghost use Prim.Native.Nat.{_<_, _^_};
 ghost use lib.Ieee.{Float};
-ghost use Rattle.fit.specs.Vector.{at};
+ghost use Rattle.solve.specs.Vector.{at};
 ghost use Rattle.fit.specs.Rows.{rows, rowOf, viewOf, viewAt};
 ghost use Rattle.fit.specs.Normal.{added, addedRow, accumulatedBy, accumulateNormalEquations, rightSide, withRow, withRows, noMatches, normalMatrix, solvedSums, lsFitOnce};
 use crate::Counted;
-use crate::Plane;
 use crate::Pose;
-use crate::Projected;
-use crate::Solution;
 use crate::Spot;
 use crate::Sums;
 use crate::Turn;
-use crate::camera::tan_basis;
-use crate::camera::tan_project_vec;
-use crate::project::predict_tanplane;
 use crate::rows::direction_at;
 use crate::rows::spot_at;
 use crate::rows::turn_of;
-use crate::solve::solve_3x3;
+use project::Plane;
+use project::Projected;
+use project::predict_tanplane;
+use project::tan_basis;
+use project::tan_project_vec;
+use solve::Solution;
+use solve::solve_3x3;
 
 // What a match adds to one entry is one sum.
 fn added(old: f64, a: f64, b: f64, c: f64, d: f64) -> f64

@@ -63,11 +63,11 @@ fn called(
     match k {
         0 => same_solution(
             e,
-            fit::ls_fit_once(matches, directions, spots, pose, fit::PLANE_CUT),
+            fit::ls_fit_once(matches, directions, spots, pose, project::PLANE_CUT),
         ),
         1 => same_counted(
             e,
-            fit::normal_matrix(matches, directions, spots, pose, fit::PLANE_CUT),
+            fit::normal_matrix(matches, directions, spots, pose, project::PLANE_CUT),
         ),
         _ => compute_residuals(matches, directions, spots, pose, e),
     }
@@ -92,7 +92,7 @@ fn compute_residuals(
         directions,
         spots,
         pose,
-        fit::PLANE_CUT,
+        project::PLANE_CUT,
         &mut residuals,
     );
     same_residuals(e, same(e, 0, n), &residuals)

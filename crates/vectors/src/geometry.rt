@@ -1,4 +1,4 @@
-// The functions of the crate `fit` that give points, by name.
+// The functions of the crate `project` that give points, by name.
 use crate::list::doubles;
 use crate::matrices::matrix_of;
 use crate::word::NEVER;
@@ -6,9 +6,9 @@ use crate::word::f32_at;
 use crate::word::place;
 use crate::word::same;
 use crate::word::same_pair;
-use fit::Plane;
-use fit::Projected;
-use fit::Sky;
+use project::Plane;
+use project::Projected;
+use project::Sky;
 
 pub(crate) fn answer(name: &[u8], a: &[usize], e: &[usize]) -> usize {
     let x = doubles(a, 0);
@@ -16,10 +16,10 @@ pub(crate) fn answer(name: &[u8], a: &[usize], e: &[usize]) -> usize {
         name,
         b"tan_project tan_project_vec inverse_tan_project predict_tanplane",
     ) {
-        0 => same_projected(e, fit::tan_project(x[0], x[1], x[2], x[3])),
+        0 => same_projected(e, project::tan_project(x[0], x[1], x[2], x[3])),
         1 => same_projected(e, vec_projected(a)),
-        2 => same_sky(e, fit::inverse_tan_project(x[0], x[1], x[2], x[3])),
-        3 => same_plane(e, fit::predict_tanplane(x[0], x[1], x[2], x[3], x[4])),
+        2 => same_sky(e, project::inverse_tan_project(x[0], x[1], x[2], x[3])),
+        3 => same_plane(e, project::predict_tanplane(x[0], x[1], x[2], x[3], x[4])),
         _ => NEVER,
     }
 }
@@ -27,7 +27,7 @@ pub(crate) fn answer(name: &[u8], a: &[usize], e: &[usize]) -> usize {
 // A direction, and then the basis.
 fn vec_projected(a: &[usize]) -> Projected {
     let v = [f32_at(a, 0), f32_at(a, 1), f32_at(a, 2)];
-    fit::tan_project_vec(v, matrix_of(doubles(a, 3)), fit::PLANE_CUT)
+    project::tan_project_vec(v, matrix_of(doubles(a, 3)), project::PLANE_CUT)
 }
 
 // An option: 1 and its values, or 0.

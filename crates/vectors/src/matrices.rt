@@ -1,4 +1,4 @@
-// The functions of the crate `fit` that give matrices, and the solver, by name.
+// The functions of the crates `project`, `solve` and `fit` that give matrices, and the solver, by name.
 use crate::list::doubles;
 use crate::word::NEVER;
 use crate::word::at;
@@ -8,9 +8,9 @@ use crate::word::same_pair;
 use crate::word::same32;
 use crate::word::same64;
 use crate::word::truth;
-use fit::Solution;
 use fit::Sums;
-use fit::WcsRotation;
+use project::WcsRotation;
+use solve::Solution;
 
 pub(crate) fn answer(name: &[u8], a: &[usize], e: &[usize]) -> usize {
     let x = doubles(a, 0);
@@ -18,15 +18,15 @@ pub(crate) fn answer(name: &[u8], a: &[usize], e: &[usize]) -> usize {
         name,
         b"tan_basis camera_rows_f64 covariance_from_normal solve_3x3 cd_from_theta rotation_from_theta_crval wcs_to_rotation accumulate_normal_equations",
     ) {
-        0 => same_matrix(e, fit::tan_basis(x[0], x[1])),
-        1 => same_matrix(e, fit::camera_rows_f64(x[0], x[1], x[2])),
+        0 => same_matrix(e, project::tan_basis(x[0], x[1])),
+        1 => same_matrix(e, project::camera_rows_f64(x[0], x[1], x[2])),
         2 => same_matrix(
             e,
-            fit::covariance_from_normal(matrix_of(x), x[9], at(a, 10)),
+            solve::covariance_from_normal(matrix_of(x), x[9], at(a, 10)),
         ),
-        3 => same_solution(e, fit::solve_3x3(matrix_of(x), [x[9], x[10], x[11]])),
-        4 => same_square(e, fit::cd_from_theta(x[0], x[1], at(a, 2) != 0)),
-        5 => same_singles(e, fit::rotation_from_theta_crval(x[0], x[1], x[2])),
+        3 => same_solution(e, solve::solve_3x3(matrix_of(x), [x[9], x[10], x[11]])),
+        4 => same_square(e, project::cd_from_theta(x[0], x[1], at(a, 2) != 0)),
+        5 => same_singles(e, project::rotation_from_theta_crval(x[0], x[1], x[2])),
         6 => same_rotation(e, wcs_to_rotation(x, at(a, 6))),
         7 => same_sums(e, accumulate(x)),
         _ => NEVER,
@@ -35,7 +35,7 @@ pub(crate) fn answer(name: &[u8], a: &[usize], e: &[usize]) -> usize {
 
 fn wcs_to_rotation(x: [f64; 20], width: usize) -> WcsRotation {
     let cd = [[x[0], x[1]], [x[2], x[3]]];
-    fit::wcs_to_rotation(cd, x[4], x[5], (width % 0x1_0000_0000) as u32)
+    project::wcs_to_rotation(cd, x[4], x[5], (width % 0x1_0000_0000) as u32)
 }
 
 // The sums so far, and then what a match brings.

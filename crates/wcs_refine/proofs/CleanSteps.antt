@@ -16,8 +16,8 @@ use Rattle.fit.specs.Residual.{residualOf, residuals, inFront, over, Computed, 
 use Rattle.fit.specs.declared.Pose.{Pose}
 use Rattle.fit.specs.declared.Clip.{Clip}
 use Rattle.fit.specs.declared.Clip.the-variants.{Kept, Unchanged}
-use Rattle.fit.specs.declared.Solution.{Solution}
-use Rattle.fit.specs.declared.Solution.the-variants.{Solved, Failed}
+use Rattle.solve.specs.declared.Solution.{Solution}
+use Rattle.solve.specs.declared.Solution.the-variants.{Solved, Failed}
 use Rattle.entry.specs.Fixed.{Fixed}
 use Rattle.wcs_refine.specs.Fit.{moved, sound, Statistics, none, some, statistics, taken}
 use Rattle.wcs_refine.specs.Closing.{Closed, unsound, fine, ifSound, refitted, recleaned, cleanedBy, cleaned}

@@ -9,7 +9,7 @@ use lib.Ieee.{Float, le}
 use lib.ListN.{length, take, drop, length-append}
 use lib.Seq.{length-take-le, take-append-le, take-take, take-add, take-at, drop-at, drop-drop, slice, length-slice}
 use borrow.Rule.Slice.PartMut.{take-put, drop-put, same-len-mid}
-use Rattle.fit.specs.Camera.{boresight, cameraRows}
+use Rattle.project.specs.Camera.{boresight, cameraRows}
 use Rattle.fit.specs.Rows.{directionAt}
 use Rattle.fit.specs.declared.Pose.{Pose}
 use Rattle.entry.specs.declared.Settings.{Settings}

@@ -10,7 +10,7 @@ use Rattle.matching.specs.Pairs.{Pair, pointAt, pairsOf, pairsFrom, pairs, spot
 use Rattle.matching.specs.Merge.{notAfter, merged}
 use Rattle.matching.specs.Greedy.{assigned, matchesOf}
 use Rattle.fit.specs.Rows.{spotAt, directionAt, rowAt, rowsFrom, rows}
-use Rattle.fit.specs.Camera.{boresight}
+use Rattle.project.specs.Camera.{boresight}
 use Rattle.fit.specs.declared.Pose.{Pose}
 use Rattle.entry.specs.Fixed.{Fixed, pruneR, keepR}
 use Rattle.wcs_refine.specs.Query.{dot32, axis32, leastCos, scanned, query, predicted, reaches, predictions, pruned}

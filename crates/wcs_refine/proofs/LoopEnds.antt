@@ -10,7 +10,7 @@ use lib.Ieee.{Float}
 use Rattle.rounding.specs.Arith.{_⊗_}
 use Rattle.matching.specs.Pairs.{pairs}
 use Rattle.matching.specs.Greedy.{matchesOf}
-use Rattle.fit.specs.Camera.{boresight, cameraRows}
+use Rattle.project.specs.Camera.{boresight, cameraRows}
 use Rattle.fit.specs.Rows.{Row, rows, viewOf}
 use Rattle.fit.specs.Residual.{residuals, madClipMatches}
 use Rattle.fit.specs.declared.Pose.{Pose}

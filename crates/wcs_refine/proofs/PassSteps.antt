@@ -11,8 +11,8 @@ use lib.Ieee.{Float}
 use Rattle.fit.specs.Normal.{lsFitOnce}
 use Rattle.fit.specs.Rows.{Row, rowsFrom, rows, viewOf}
 use Rattle.fit.specs.declared.Pose.{Pose}
-use Rattle.fit.specs.declared.Solution.{Solution}
-use Rattle.fit.specs.declared.Solution.the-variants.{Solved, Failed}
+use Rattle.solve.specs.declared.Solution.{Solution}
+use Rattle.solve.specs.declared.Solution.the-variants.{Solved, Failed}
 use Rattle.wcs_refine.specs.Fit.{moved, sound, still, Passes, goesOn, passed, fitPasses}
 
 -- ---- as many rows as matches

@@ -11,17 +11,17 @@ use lib.IntN.{pos}
 use lib.Ieee.{Float, nan, eq, binary64, ofInt}
 use Rattle.rounding.specs.Arith.{_⊕_, _⊗_, _⊘_, zero64, one64}
 use Rattle.rounding.specs.Root.{root}
-use Rattle.fit.specs.Constants.{minusOne}
-use Rattle.fit.specs.Covariance.{unconstrained, fromColumns, covarianceFromNormal}
+use Rattle.solve.specs.Constants.{minusOne}
+use Rattle.solve.specs.Covariance.{unconstrained, fromColumns, covarianceFromNormal}
 use Rattle.fit.specs.Normal.{normalMatrix}
-use Rattle.fit.specs.Project.{cdFromTheta}
+use Rattle.project.specs.Project.{cdFromTheta}
 use Rattle.fit.specs.Residual.{inFront, residuals}
 use Rattle.fit.specs.Rows.{Row, viewOf}
-use Rattle.fit.specs.Solve.{solve3x3}
+use Rattle.solve.specs.Solve.{solve3x3}
 use Rattle.fit.specs.declared.Counted.{Counted}
 use Rattle.fit.specs.declared.Pose.{Pose}
-use Rattle.fit.specs.declared.Solution.{Solution}
-use Rattle.fit.specs.declared.Solution.the-variants.{Solved, Failed}
+use Rattle.solve.specs.declared.Solution.{Solution}
+use Rattle.solve.specs.declared.Solution.the-variants.{Solved, Failed}
 use Rattle.wcs_refine.specs.Closing.{sumSquares, rootMean, Report, reported}
 use Rattle.entry.specs.Fixed.{Fixed}
 use Rattle.wcs_refine.specs.Passing.{covarianceOf}

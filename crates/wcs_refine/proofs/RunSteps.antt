@@ -10,13 +10,13 @@ use lib.Ieee.{Float}
 use Rattle.rounding.specs.Arith.{_⊗_}
 use Rattle.matching.specs.Pairs.{pairs}
 use Rattle.matching.specs.Greedy.{matchesOf}
-use Rattle.fit.specs.Camera.{boresight, cameraRows}
+use Rattle.project.specs.Camera.{boresight, cameraRows}
 use Rattle.fit.specs.Normal.{lsFitOnce}
 use Rattle.fit.specs.Rows.{Row, rows, viewOf}
 use Rattle.fit.specs.Residual.{residuals}
 use Rattle.fit.specs.declared.Pose.{Pose}
-use Rattle.fit.specs.declared.Solution.{Solution}
-use Rattle.fit.specs.declared.Solution.the-variants.{Solved, Failed}
+use Rattle.solve.specs.declared.Solution.{Solution}
+use Rattle.solve.specs.declared.Solution.the-variants.{Solved, Failed}
 use Rattle.entry.specs.declared.Settings.{Settings}
 use Rattle.entry.specs.Fixed.{Fixed}
 use Rattle.entry.specs.Entry.{fixedOf}

@@ -10,8 +10,8 @@ use Rattle.fit.specs.Rows.{Row, rows, viewOf}
 use Rattle.fit.specs.Normal.{lsFitOnce}
 use Rattle.fit.specs.Residual.{residuals, madClipMatches}
 use Rattle.fit.specs.declared.Pose.{Pose}
-use Rattle.fit.specs.declared.Solution.{Solution}
-use Rattle.fit.specs.declared.Solution.the-variants.{Solved, Failed}
+use Rattle.solve.specs.declared.Solution.{Solution}
+use Rattle.solve.specs.declared.Solution.the-variants.{Solved, Failed}
 use Rattle.fit.specs.declared.Clip.{Clip}
 use Rattle.fit.specs.declared.Clip.the-variants.{Kept, Unchanged}
 use Rattle.entry.specs.Fixed.{Fixed}

@@ -8,14 +8,14 @@ use lib.ListN.{length}
 use lib.Ieee.{Float, binary64, ofInt}
 use Rattle.rounding.specs.Arith.{_⊕_, _⊗_, _⊘_, zero64}
 use Rattle.rounding.specs.Root.{root}
-use Rattle.fit.specs.Project.{cdFromTheta}
+use Rattle.project.specs.Project.{cdFromTheta}
 use Rattle.fit.specs.Rows.{Row, rows, View, viewOf}
 use Rattle.fit.specs.Normal.{lsFitOnce, normalMatrix}
 use Rattle.fit.specs.Residual.{residuals, inFront, madClipMatches}
-use Rattle.fit.specs.Covariance.{covarianceFromNormal}
+use Rattle.solve.specs.Covariance.{covarianceFromNormal}
 use Rattle.fit.specs.declared.Pose.{Pose}
-use Rattle.fit.specs.declared.Solution.{Solution}
-use Rattle.fit.specs.declared.Solution.the-variants.{Solved, Failed}
+use Rattle.solve.specs.declared.Solution.{Solution}
+use Rattle.solve.specs.declared.Solution.the-variants.{Solved, Failed}
 use Rattle.fit.specs.declared.Clip.{Clip}
 use Rattle.fit.specs.declared.Clip.the-variants.{Kept, Unchanged}
 use Rattle.fit.specs.declared.Counted.{Counted}

@@ -9,14 +9,14 @@ use Rattle.rounding.specs.Arith.{_⊕_, f64}
 use Rattle.rounding.specs.Methods.{absF}
 use Rattle.stats.specs.Median.{medianMadSigma}
 use Rattle.stats.specs.declared.MedianSigma.{MedianSigma}
-use Rattle.fit.specs.Project.{inverseTanProject}
+use Rattle.project.specs.Project.{inverseTanProject}
 use Rattle.fit.specs.Rows.{Row, View, viewOf}
 use Rattle.fit.specs.Normal.{lsFitOnce}
 use Rattle.fit.specs.Residual.{residuals, inFront, madClipMatches}
 use Rattle.fit.specs.declared.Pose.{Pose}
-use Rattle.fit.specs.declared.Sky.{Sky}
-use Rattle.fit.specs.declared.Solution.{Solution}
-use Rattle.fit.specs.declared.Solution.the-variants.{Solved, Failed}
+use Rattle.project.specs.declared.Sky.{Sky}
+use Rattle.solve.specs.declared.Solution.{Solution}
+use Rattle.solve.specs.declared.Solution.the-variants.{Solved, Failed}
 use Rattle.fit.specs.declared.Clip.{Clip}
 use Rattle.fit.specs.declared.Clip.the-variants.{Kept, Unchanged}
 

@@ -11,8 +11,8 @@ use Rattle.rounding.specs.Arith.{_⊕_, _⊖_, _⊗_, _⊘_, f32, zero64, one64
 use Rattle.rounding.specs.Narrow.{narrowed}
 use Rattle.rounding.specs.Methods.{absF, clampF}
 use Rattle.angles.specs.SinCos.{cos32}
-use Rattle.fit.specs.Vector.{row, dot}
-use Rattle.fit.specs.Camera.{boresight}
+use Rattle.solve.specs.Vector.{row, dot}
+use Rattle.project.specs.Camera.{boresight}
 use Rattle.fit.specs.Rows.{directionAt}
 use Rattle.fit.specs.declared.Pose.{Pose}
 use Rattle.wcs_refine.specs.Query.{Prediction}

@@ -9,7 +9,7 @@ use lib.Ieee.{Float}
 use Rattle.fit.specs.Rows.{rows, viewOf}
 use Rattle.fit.specs.Normal.{lsFitOnce}
 use Rattle.fit.specs.Residual.{residuals, Clipped, madClipMatches}
-use Rattle.fit.specs.Covariance.{covarianceFromNormal}
+use Rattle.solve.specs.Covariance.{covarianceFromNormal}
 use Rattle.fit.specs.declared.Counted.{Counted}
 use Rattle.fit.specs.declared.Pose.{Pose}
 use Rattle.fit.specs.declared.Clip.{Clip}

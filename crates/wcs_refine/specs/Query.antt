@@ -9,8 +9,8 @@ use Rattle.rounding.specs.Root.{root}
 use Rattle.rounding.specs.Narrow.{narrowed}
 use Rattle.rounding.specs.Methods.{absF, clampF}
 use Rattle.angles.specs.SinCos.{cos32}
-use Rattle.fit.specs.Vector.{at, row, dot}
-use Rattle.fit.specs.Camera.{boresight, cameraRows}
+use Rattle.solve.specs.Vector.{at, row, dot}
+use Rattle.project.specs.Camera.{boresight, cameraRows}
 use Rattle.fit.specs.Rows.{directionAt}
 use Rattle.fit.specs.declared.Pose.{Pose}
 use Rattle.entry.specs.Fixed.{Fixed, searchRadius, requeryMargin, requeryCos, pruneR, keepR, thetaMargin}

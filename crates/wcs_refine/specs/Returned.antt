@@ -6,7 +6,7 @@ use mathlib.Core.List.{List, [], _∷_}
 use lib.ListN.{length}
 use lib.Ieee.{Float}
 use Rattle.rounding.specs.Arith.{zero64}
-use Rattle.fit.specs.Vector.{row}
+use Rattle.solve.specs.Vector.{row}
 use Rattle.fit.specs.declared.Pose.{Pose}
 use Rattle.entry.specs.Arguments.{Call, Given, Lent}
 use Rattle.wcs_refine.specs.Closing.{Report}

@@ -6,7 +6,7 @@ use mathlib.Core.List.{List}
 use lib.ListN.{take}
 use lib.Seq.{slice}
 use lib.Ieee.{Float}
-use Rattle.fit.specs.Camera.{boresight}
+use Rattle.project.specs.Camera.{boresight}
 use Rattle.fit.specs.declared.Pose.{Pose}
 use Rattle.entry.specs.declared.Settings.{Settings}
 use Rattle.entry.specs.Entry.{fixedOf}

@@ -14,10 +14,10 @@ use crate::passing::is_sound;
 use crate::passing::moved;
 use fit::Clip;
 use fit::Pose;
-use fit::Solution;
 use fit::compute_residuals;
 use fit::ls_fit_once;
 use fit::mad_clip_matches;
+use solve::Solution;
 
 const MOST_CLIPS: usize = 3;
 

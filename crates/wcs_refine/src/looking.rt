@@ -20,8 +20,8 @@ use entry::requery_margin;
 use entry::search_radius;
 use entry::theta_margin;
 use fit::Pose;
-use fit::boresight_of;
-use fit::camera_rows_f64;
+use project::boresight_of;
+use project::camera_rows_f64;
 
 // How many predictions stand in their regions, and how many queries were made: one or none.
 pub(crate) struct Looked {

@@ -8,12 +8,12 @@ ghost use Rattle.wcs_refine.specs.Fit.{moved, sound, still, fitPasses};
 ghost use Rattle.wcs_refine.specs.Passing.{passesOf, Statted, ClippedTo};
 use fit::Clip;
 use fit::Pose;
-use fit::Solution;
-use fit::inverse_tan_project;
 use fit::ls_fit_once;
 use fit::mad_clip_matches;
 use fit::residual_median_sigma;
+use project::inverse_tan_project;
 use rounding::abs;
+use solve::Solution;
 
 // Angles beyond this, and those that are not finite, are refused.
 const MOST: f64 = 1024.0;

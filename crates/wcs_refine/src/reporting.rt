@@ -16,11 +16,11 @@ ghost use Rattle.wcs_refine.specs.Closing.{sumSquares, reported};
 ghost use Rattle.wcs_refine.specs.Passing.{covarianceOf, reportOf};
 use fit::NO_RESIDUAL;
 use fit::Pose;
-use fit::cd_from_theta;
 use fit::compute_residuals;
-use fit::covariance_from_normal;
 use fit::normal_matrix;
+use project::cd_from_theta;
 use rounding::sqrt64;
+use solve::covariance_from_normal;
 
 // The matrices by rows.
 pub(crate) struct Numbers {

@@ -1,6 +1,6 @@
 -- `fit::residual::apart` meets its contract: the plane point of the spot is that of `predict_tanplane`. Assumes nothing.
 use borrow.Author.Needs.{needs}
-use Rattle.fit.specs.Project.{predictTanplane}
+use Rattle.project.specs.Project.{predictTanplane}
 use Rattle.fit.specs.Residual.{apart}
 use Rattle.fit.proofs.residual.apart.Statement.{statement}
 use Rattle.fit.proofs.residual.apart.Tie as tie

@@ -8,7 +8,7 @@ use borrow.Author.Needs.{needs}
 use borrow.Author.Tests.{not-true, not-false}
 use lib.Ieee.{nan, eq, ne}
 use lib.ListN.{getD, length, take, drop, length-set}
-use Rattle.fit.specs.Constants.{minusOne}
+use Rattle.solve.specs.Constants.{minusOne}
 use Rattle.fit.specs.Residual.{inFront}
 use Rattle.fit.proofs.Gathered.{front-none, copied, passed}
 use Rattle.fit.proofs.residual.gather.Statement.{statement}

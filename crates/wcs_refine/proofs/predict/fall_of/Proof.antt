@@ -1,5 +1,5 @@
 -- `predict::fall_of` meets its contract. Assumes nothing.
-use Rattle.fit.specs.Vector.{dot}
+use Rattle.solve.specs.Vector.{dot}
 use Rattle.wcs_refine.specs.Listing.{fallOf}
 use borrow.Author.Needs.{needs}
 use Rattle.wcs_refine.proofs.predict.fall_of.Statement.{statement}

@@ -6,7 +6,7 @@ use borrow.Author.Tests.{not-true, not-false}
 use lib.ListN.{length, getD, drop}
 use lib.Ieee.{nan, eq, ne}
 use Rattle.rounding.specs.Arith.{zero64}
-use Rattle.fit.specs.Constants.{minusOne}
+use Rattle.solve.specs.Constants.{minusOne}
 use Rattle.fit.specs.Residual.{inFront}
 use Rattle.wcs_refine.specs.Closing.{sumSquares}
 use Rattle.wcs_refine.proofs.ReportSteps.{squares-more, squares-same, squares-done}

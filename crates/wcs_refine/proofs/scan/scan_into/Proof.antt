@@ -8,7 +8,7 @@ use native.Mathlib.Omega.{arith}
 use lib.Ieee.{Float, le}
 use lib.ListN.{length, set, drop}
 use Rattle.fit.specs.Rows.{directionAt}
-use Rattle.fit.specs.Vector.{at}
+use Rattle.solve.specs.Vector.{at}
 use Rattle.wcs_refine.specs.Query.{dot32, scanned}
 use Rattle.wcs_refine.specs.Listing.{Fronted}
 use Rattle.wcs_refine.proofs.Listed.{Writing, begin, onward, front-push, front-many, front-whole, scan-next, scan-not, scan-none}

@@ -1,0 +1,4 @@
+pub mod Constants
+pub mod Vector
+pub mod Solve
+pub mod Covariance
