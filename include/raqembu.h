@@ -57,6 +57,24 @@ size_t raqembu_wcs_refine(
     size_t *counts, size_t counts_len,
     double *values, size_t values_len);
 
+/* Reads an exposure record into lists. Returns 0, or the number of the refusal: 1 to 4, or 11 where a list is too short for the record.
+ *
+ * bytes: the record. spots, matches, directions: take what the record holds, in the form that raqembu_wcs_refine takes, from their first place on.
+ * choices: 6 places for the counts of spots, matches and directions, the mirror as 1 or 0, the matching limit, the rounds. measures: 2 places for
+ * the scale and the radius, which as a float is the same number. rotation: 9 places for the entries, by rows. Shorter lists of these three take
+ * as many as they have places.
+ *
+ * Refused, spots, matches and directions are as they came, and choices, measures and rotation are zero in the places named. Accepted, a list
+ * longer than what is read is unchanged past it. The values themselves are not looked at here: 5 to 10 are for the refinement call. */
+size_t raqembu_read_record(
+    const uint8_t *bytes, size_t bytes_len,
+    double *spots, size_t spots_len,
+    size_t *matches, size_t matches_len,
+    float *directions, size_t directions_len,
+    size_t *choices, size_t choices_len,
+    double *measures, size_t measures_len,
+    float *rotation, size_t rotation_len);
+
 /* Matches spots with predictions (x, y of each), nearest pairs first, each at most once. Returns how many matches stand in `work` after its
  * marks, one mark for each spot within max_points and each prediction; RAQEMBU_TOO_MANY where there are more pairs than the candidate lists
  * hold; RAQEMBU_SHORT where `work` is too short, and then nothing is written. */

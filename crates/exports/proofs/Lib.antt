@@ -1,2 +1,3 @@
 pub mod Lacking
 pub mod Exported
+pub mod Reader

@@ -1,6 +1,7 @@
 // The functions for C and Rust to link (`rt staticlib exports`). Each hands its arguments to the function of the same name and promises the same.
 mod lists; // lists.rt: the functions over lists
 mod refine; // refine.rt: the refinement call
+mod intake; // intake.rt: the record reader
 
 ghost use mathlib.Core.Path.{_≡_};
 ghost use lib.Ieee.{binary32, binary64};

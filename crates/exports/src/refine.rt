@@ -30,7 +30,7 @@ fn row_at(rotation: &[f32], i: usize, j: usize, k: usize) -> [f32; 3]
 }
 
 // A write past the end of a list is left out.
-fn put_count(l: &mut [usize], i: usize, x: usize)
+pub(crate) fn put_count(l: &mut [usize], i: usize, x: usize)
     ensures { λ _. ⌜ now (l .exit) ≡ set (now (l .entry)) i x ⌝ }
 {
     if i < l.len() {
