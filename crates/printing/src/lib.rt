@@ -3,7 +3,7 @@ ghost use mathlib.Core.Path.{_≡_};
 ghost use Prim.Native.Nat.{min};
 ghost use lib.ListN.{length};
 ghost use Rattle.printing.specs.Laying.{laid, Lays};
-ghost use Rattle.printing.specs.Text.{acceptedText, answerText, setFrom};
+ghost use Rattle.printing.specs.Text.{acceptedText, answerText, refusedText, setFrom};
 use wcs_refine::WcsRefineResult;
 
 mod laying; // laying.rt: bytes laid into a list
@@ -39,4 +39,12 @@ pub fn print_answer(r: WcsRefineResult, matches: &[usize], out: &mut [u8]) -> us
         return fields::refused(r.refusal, out, 0);
     }
     accepted(r, matches, out)
+}
+
+// The same of a refusal by its number alone, for what is turned away before there is an answer.
+pub fn print_refusal(number: usize, out: &mut [u8]) -> usize
+    ensures { λ n. ⌜ n ≡ min (length (refusedText number)) (length (now (out .entry))) ⌝ }
+    ensures { λ _. ⌜ now (out .exit) ≡ setFrom 0 (refusedText number) (now (out .entry)) ⌝ }
+{
+    fields::refused(number, out, 0)
 }
