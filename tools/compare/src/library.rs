@@ -173,8 +173,8 @@ fn time(name: &str, e: &Exposure, pairs: usize, runs: usize) {
 }
 
 /// Exposures of a given size: `dark` directions lie in the field without a spot, `elsewhere` anywhere on the sphere.
-fn times(name: &str, sizes: [usize; 4], pairs: usize, runs: usize) {
-    for item in 0..3 {
+fn times(name: &str, sizes: [usize; 4], pairs: usize, exposures: u64, runs: usize) {
+    for item in 0..exposures {
         let mut r = Rng::new(77, item);
         let mut p = Plan::ordinary(&mut r);
         [p.pairs, p.strays, p.dark, p.elsewhere] = sizes;
@@ -209,8 +209,8 @@ fn main() {
         compare(seed, full, Some("full-size"), 1 << 20);
     }
     if timed {
-        times("64 / 256", [48, 16, 100, 108], 2048, 2000);
-        times("4,096 / 65,536, whole sphere", [3000, 1096, 2000, 60_536], 1 << 20, 6);
-        times("4,096 / 65,536, one field", [3000, 1096, 62_536, 0], 1 << 20, 2);
+        times("64 / 256", [48, 16, 100, 108], 2048, 6, 2000);
+        times("4,096 / 65,536, whole sphere", [3000, 1096, 2000, 60_536], 1 << 20, 3, 5);
+        times("4,096 / 65,536, one field", [3000, 1096, 62_536, 0], 1 << 20, 1, 1);
     }
 }
