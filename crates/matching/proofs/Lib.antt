@@ -3,8 +3,13 @@ pub mod Laying
 pub mod Runs
 pub mod Passes
 pub mod Pushing
+pub mod Threads
 pub mod Marks
 pub mod Merging
 pub mod Whole
 pub mod Floats
+pub mod Monotone
+pub mod Covered
+pub mod Unique
+pub mod Rearranged
 pub mod Theorems

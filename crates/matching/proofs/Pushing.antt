@@ -3,7 +3,7 @@ use mathlib.Core.Path.{_≡_, refl, sym, ap, subst, _∙_}
 use mathlib.Core.Bool.{true, false}
 use mathlib.Core.List.{List, [], _∷_, _++_, append-assoc, append-nil}
 use mathlib.Core.Logic.{⊎-elim}
-use Prim.Native.Nat.{ℕ, zero, suc, _+_, _-_, _*_, _/_, _<_, _≤_}
+use Prim.Native.Nat.{ℕ, suc, _+_, _-_, _*_, _/_, _<_, _≤_}
 use native.Mathlib.Numerals.{add-one}
 use native.Mathlib.Omega.{arith}
 use borrow.Author.Tests.{lt-ltb, le-ltb}
@@ -12,9 +12,11 @@ use lib.ListN.{length, set, take, length-set}
 use lib.Seq.{take-suc-set}
 use Rattle.matching.specs.Pairs.{Pair, Point, pointAt, squared, within, pairsOf, pairsFrom}
 use Rattle.matching.specs.Layout.{pair, Inside, laid, Found, found, push, pushed, Beyond}
-use Rattle.matching.specs.Ordered.{All, none, more}
-use Rattle.matching.proofs.Runs.{below-or, either}
-use Rattle.matching.proofs.Merging.{all-append}
+use Rattle.matching.specs.Ordered.{All}
+use Rattle.matching.specs.Strips.{Candidate}
+use Rattle.matching.proofs.Runs.{below-or}
+use Rattle.matching.proofs.Merging.{all-map}
+use Rattle.matching.proofs.Rearranged.{candidates-from}
 use Rattle.matching.proofs.Laying.{laid-set, laid-long, stays, then, later, stored}
 
 -- ---- one push
@@ -47,6 +49,19 @@ pub pushed-append : (cap : ℕ) (s : Found) (ps qs : List Pair) → pushed cap s
 unfolding pushed
 pushed-append cap s [] qs = refl
 pushed-append cap s (p ∷ ps) qs = pushed-append cap (push cap s p) ps qs
+
+-- of what is to be pushed, a first part was
+module _ (cap m : ℕ) (d : List Float) (ix : List ℕ) (r : ℕ) (d' : List Float) (ix' : List ℕ) (ps qs : List Pair) (end : Found)
+    (whole : pushed cap (found m d ix) (ps ++ qs) ≡ end) (did : found r d' ix' ≡ pushed cap (found m d ix) ps) where
+  pub part-done : pushed cap (found r d' ix') qs ≡ end
+  part-done = ap (λ (s : Found). pushed cap s qs) did ∙ sym (pushed-append cap (found m d ix) ps qs) ∙ whole
+
+  -- and was too much
+  pub part-full : m ≤ cap → cap < r → found r d' ix' ≡ end
+  part-full k h =
+      let few : r ≤ cap + 1 = rw (ap (λ (s : Found). s .count) did) (pushed-count cap m d ix ps (omega arith)) in
+      let e : r ≡ cap + 1 = omega arith in
+      rw e (sym (pushed-full cap d' ix' qs) ∙ rw e at part-done)
 
 -- ---- a spot's pairs, one prediction more
 
@@ -131,20 +146,9 @@ pushed-over cap (p ∷ ps) n d ix h k =
 
 -- ---- every pair is of a spot and a prediction that there are
 
-within-all : (P : Pair → Type 0) (r2 : Float) (p : Pair) (ps : List Pair) → P p → All P ps → All P (within r2 p ps)
-unfolding within
-within-all P r2 p ps h g = either (All P) (le (p .d2) r2) (more p ps h g) g
-
-of-inside : (np nq : ℕ) (r2 : Float) (predicted : List Float) (i : ℕ) (c : Point) (k j : ℕ) → i < np → j + k ≤ nq → All (Inside np nq) (pairsOf r2 predicted i c j k)
-unfolding pairsOf
-of-inside np nq r2 predicted i c zero j h q = none
-of-inside np nq r2 predicted i c (suc k) j h q =
-    within-all (Inside np nq) r2 (pair (squared c (pointAt predicted j)) i j) (pairsOf r2 predicted i c (suc j) k) (h, omega arith) (of-inside np nq r2 predicted i c k (suc j) h (omega arith))
+pub candidates-inside : (np : ℕ) (r2 : Float) (points predicted : List Float) (l : List Pair) → All (Candidate np points predicted r2) l
+    → All (Inside np (length predicted / 2)) l
+candidates-inside np r2 points predicted l h = all-map _ _ (λ p c. (c .spot, c .prediction)) l h
 
 pub pairs-inside : (np : ℕ) (r2 : Float) (points predicted : List Float) (k i : ℕ) → i + k ≤ np → All (Inside np (length predicted / 2)) (pairsFrom r2 points predicted i k)
-unfolding pairsFrom
-pairs-inside np r2 points predicted zero i h = none
-pairs-inside np r2 points predicted (suc k) i h =
-    all-append (Inside np (length predicted / 2)) (pairsOf r2 predicted i (pointAt points i) 0 (length predicted / 2)) (pairsFrom r2 points predicted (suc i) k)
-    (of-inside np (length predicted / 2) r2 predicted i (pointAt points i) (length predicted / 2) 0 (omega arith) (omega arith))
-    (pairs-inside np r2 points predicted k (suc i) (omega arith))
+pairs-inside np r2 points predicted k i h = candidates-inside np r2 points predicted (pairsFrom r2 points predicted i k) (candidates-from np points predicted r2 i k h)

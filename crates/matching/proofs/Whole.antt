@@ -1,27 +1,32 @@
 -- The parts put together: what is left after ordering, offering and clearing, and the three answers of the whole call. Assumes nothing.
 use mathlib.Core.Path.{_≡_, refl, sym, ap, subst, _∙_}
-use mathlib.Core.List.{List, [], _∷_, _++_, append-assoc}
+use mathlib.Core.List.{List, [], _∷_, _++_, append-assoc, append-nil}
 use mathlib.Core.Logic.{⊎-elim}
-use Prim.Native.Nat.{ℕ, zero, suc, _+_, _*_, _/_, _<_, _≤_, min}
+use Prim.Native.Nat.{ℕ, zero, suc, _+_, _-_, _*_, _/_, _<_, _≤_, min}
 use native.Mathlib.Nat.{not-suc-le-zero, zero-add}
 use native.Mathlib.Omega.{arith}
 use borrow.Author.Tests.{lt-ltb, le-ltb}
 use lib.Ieee.{Float}
-use lib.ListN.{length, take, drop, getD, replicate}
-use lib.Seq.{slice, length-slice, getD-take, getD-drop}
+use lib.ListN.{length, take, drop, getD, replicate, length-drop, length-replicate}
+use lib.Seq.{slice, length-slice, getD-take, getD-drop, take-at, drop-at, take-length, drop-length}
 use Rattle.rounding.specs.Arith.{zero64}
 use Rattle.matching.specs.declared.Matched.{Matched}
 use Rattle.matching.specs.declared.Matched.the-variants.{Matches, TooMany, Short}
 use Rattle.matching.specs.Pairs.{Pair, pairs, pairsFrom, spotsWithin}
 use Rattle.matching.specs.Merge.{notAfter, merged}
-use Rattle.matching.specs.Greedy.{assigned, flat, cleared, clearedN, capacity, placed, overfull, matchesOf, greedyUniqueMatches}
+use Rattle.matching.specs.Greedy.{Outcome, assigned, flat, cleared, clearedN, capacity, marks, needed, placed, overfull, matchesOf, greedyUniqueMatches}
+use Rattle.matching.specs.Greedy.{stripRoom, greedyByStrips}
 use Rattle.matching.specs.Ordered.{All}
+use Rattle.matching.specs.Strips.{Gathered}
 use Rattle.matching.specs.Layout.{Inside, nothing, laid, Beyond, found, pushed, taking, Taking, offers, outcome}
 use Rattle.matching.proofs.Runs.{below-or}
 use Rattle.matching.proofs.Laying.{laid-get, laid-long, later}
-use Rattle.matching.proofs.Pushing.{Filled, Overfull, pushed-fits, pushed-over, pairs-inside}
+use Rattle.matching.proofs.Pushing.{Filled, Overfull, pushed-fits, pushed-over, candidates-inside}
 use Rattle.matching.proofs.Merging.{all-head, all-tail, all-merged}
 use Rattle.matching.proofs.Marks.{Taken, offersOf, all-offered, offers-laid}
+use Rattle.matching.proofs.Unique.{same-length}
+use Rattle.matching.proofs.Rearranged.{candidates}
+use Rattle.matching.proofs.Theorems.{merged-rearranged}
 
 same-outcome : {a a' : Matched} {d d' : List Float} {ix ix' w w' : List ℕ} → a ≡ a' → d ≡ d' → ix ≡ ix' → w ≡ w' → outcome a d ix w ≡ outcome a' d' ix' w'
 same-outcome p q r s = cc
@@ -90,6 +95,12 @@ module _ (cap : ℕ) (ps : List Pair) (d : List Float) (ix : List ℕ) (ld : cap
       (λ (q : length ps ≤ cap). (q, filled q .0, filled q .1, filled q .2))
       (below-or cap (length ps))
 
+-- all pairs in their own order are gathered too
+pub in-turn : (np cap : ℕ) (r2 : Float) (points predicted d : List Float) (ix : List ℕ) (d' : List Float) (ix' : List ℕ) (r : ℕ)
+    → found r d' ix' ≡ pushed cap (found 0 d ix) (pairsFrom r2 points predicted 0 np) → Gathered np cap r2 points predicted d ix d' ix' r
+in-turn np cap r2 points predicted d ix d' ix' r did =
+    record { list = pairsFrom r2 points predicted 0 np; same = λ t. refl; made = candidates np points predicted r2; pushed = did }
+
 -- ---- the whole call
 
 module _ (points : List Float) (limit : ℕ) (predicted : List Float) (r2 : Float) (d : List Float) (ix w : List ℕ) where
@@ -104,13 +115,17 @@ module _ (points : List Float) (limit : ℕ) (predicted : List Float) (r2 : Floa
   too-short h = rw (lt-ltb _ _ h)
 
   module _ (room : np + nq + 2 * min np nq ≤ length w) (r : ℕ) (d' : List Float) (ix' : List ℕ)
-      (did : found r d' ix' ≡ pushed (capacity d ix) (found 0 d ix) (pairsFrom r2 points predicted 0 np)) where
+      (did : Gathered np (capacity d ix) r2 points predicted d ix d' ix' r) where
+    -- what was gathered is as long as all pairs, found in their order
+    as-many : length (did .list) ≡ length (pairsFrom r2 points predicted 0 np)
+    as-many = same-length (did .list) (pairsFrom r2 points predicted 0 np) (did .same)
+
     pub too-many : capacity d ix < r
         → outcome TooMany (cleared (capacity d ix) d') (clearedN (2 * capacity d ix) ix') w ≡ greedyUniqueMatches points limit predicted r2 d ix w
     unfolding greedyUniqueMatches pairs overfull
     too-many h =
-        let f = too-full (capacity d ix) (pairsFrom r2 points predicted 0 np) d ix (omega arith) (omega arith) r d' ix' did h in
-        rw (le-ltb (length w) _ room, lt-ltb (capacity d ix) _ (f .0))
+        let f = too-full (capacity d ix) (did .list) d ix (omega arith) (omega arith) r d' ix' (did .pushed) h in
+        rw (le-ltb (length w) _ room, ← as-many, lt-ltb (capacity d ix) _ (f .0))
         (same-outcome refl
         (ap (λ (l : List Float). replicate (capacity d ix) zero64 ++ l) (f .1 .distances))
         (ap (λ (l : List ℕ). replicate (2 * capacity d ix) 0 ++ l) (f .1 .indices))
@@ -119,18 +134,80 @@ module _ (points : List Float) (limit : ℕ) (predicted : List Float) (r2 : Floa
     -- where all pairs fit, they are what `settle` is given
     pub given : r ≤ capacity d ix → All (Inside np nq) (take r (laid d' ix'))
     given h =
-        let f = all-there (capacity d ix) (pairsFrom r2 points predicted 0 np) d ix (omega arith) (omega arith) r d' ix' did h in
-        rw (f .1) (pairs-inside np r2 points predicted np 0 (omega arith))
+        let f = all-there (capacity d ix) (did .list) d ix (omega arith) (omega arith) r d' ix' (did .pushed) h in
+        rw (f .1) (candidates-inside np r2 points predicted (did .list) (did .made))
 
-    pub all-fit : r ≤ capacity d ix → placed (np + nq) r (assigned [] (merged notAfter (take r (laid d' ix')))) d' ix' w ≡ greedyUniqueMatches points limit predicted r2 d ix w
+    pub all-fit : r ≤ capacity d ix
+        → placed (np + nq) r (assigned [] (merged notAfter (take r (laid d' ix')))) d' ix' w ≡ greedyUniqueMatches points limit predicted r2 d ix w
     unfolding greedyUniqueMatches pairs matchesOf placed
     all-fit h =
-        let ps = pairsFrom r2 points predicted 0 np in
-        let f = all-there (capacity d ix) ps d ix (omega arith) (omega arith) r d' ix' did h in
+        let f = all-there (capacity d ix) (did .list) d ix (omega arith) (omega arith) r d' ix' (did .pushed) h in
         let b = later (2 * r) (omega arith) (f .3) in
         let e : 2 * (2 * r) ≡ 4 * r = omega arith in
-        rw (le-ltb (length w) _ room, le-ltb (capacity d ix) _ (f .0), f .1, ← f .2)
+        let count = f .2 ∙ as-many in
+        let order = ap (merged notAfter) (f .1) ∙ merged-rearranged np points predicted r2 (did .list) (did .made) (did .same) in
+        ap (λ (l : List Pair). placed (np + nq) r (assigned [] l) d' ix' w) order
+        ∙ rw (le-ltb (length w) _ room, le-ltb (capacity d ix) (length (pairsFrom r2 points predicted 0 np)) (omega arith), ← count)
         (same-outcome refl
         (ap (λ (l : List Float). replicate (2 * r) zero64 ++ l) (b .distances))
         (ap (λ (l : List ℕ). replicate (4 * r) 0 ++ l) (rw e at (b .indices)))
         refl)
+
+-- ---- the whole call with room for strips
+
+-- A list whose front is cleared, and that is as before behind it: the rest is lent and comes back.
+module _ (n : ℕ) (w w' : List ℕ) (same : drop n w' ≡ drop n w) where
+  rest-kept : drop n (clearedN n w') ≡ drop n w
+  rest-kept = drop-at (replicate n 0) (drop n w') n (length-replicate n 0) ∙ same
+
+  lent-rest : take (length w - n) (drop n (clearedN n w')) ≡ drop n w
+  lent-rest = rw (rest-kept, ← length-drop n w) (take-length (drop n w))
+
+  rest-back : (l : List ℕ) → take n (clearedN n w') ++ (l ++ drop (length w - n) (drop n (clearedN n w'))) ≡ replicate n 0 ++ l
+  rest-back l =
+      rw (rest-kept, ← length-drop n w, drop-length (drop n w), append-nil l, take-at (replicate n 0) (drop n w') n (length-replicate n 0))
+
+module _ (points : List Float) (limit : ℕ) (predicted : List Float) (r2 : Float) (d : List Float) (ix w : List ℕ) where
+  -- the places where the strips stand
+  abbrev front : ℕ
+  front = stripRoom points limit
+
+  pub too-short-for-strips : length w < front + needed points limit predicted → outcome Short d ix w ≡ greedyByStrips points limit predicted r2 d ix w
+  unfolding greedyByStrips
+  too-short-for-strips h = rw (lt-ltb _ _ h)
+
+  module _ (fits : front + needed points limit predicted ≤ length w) where
+    -- behind the strips the same is left as by the call without strips
+    behind-front : (a : Matched) (d' : List Float) (ix' w' : List ℕ)
+        → outcome a d' ix' w' ≡ greedyUniqueMatches points limit predicted r2 d ix (drop front w)
+        → outcome a d' ix' (replicate front 0 ++ w') ≡ greedyByStrips points limit predicted r2 d ix w
+    unfolding greedyByStrips
+    behind-front a d' ix' w' e =
+        rw (le-ltb (length w) _ fits) (ap (λ (o : Outcome). outcome (o .answer) (o .distances) (o .indices) (replicate front 0 ++ o .work)) e)
+
+    enough-behind : needed points limit predicted ≤ length (drop front w)
+    enough-behind = rw (length-drop front w) (omega arith)
+
+    module _ (r : ℕ) (d' : List Float) (ix' w' : List ℕ)
+        (did : Gathered (spotsWithin points limit) (capacity d ix) r2 points predicted d ix d' ix' r) (same : drop front w' ≡ drop front w) where
+      pub too-many-by-strips : capacity d ix < r
+          → outcome TooMany (cleared (capacity d ix) d') (clearedN (2 * capacity d ix) ix') (clearedN front w') ≡ greedyByStrips points limit predicted r2 d ix w
+      too-many-by-strips h =
+          rw same (behind-front TooMany _ _ (drop front w) (too-many points limit predicted r2 d ix (drop front w) enough-behind r d' ix' did h))
+
+      pub enough-lent : needed points limit predicted ≤ length (take (length w - front) (drop front (clearedN front w')))
+      enough-lent = rw (lent-rest front w w' same) enough-behind
+
+      pub given-by-strips : r ≤ capacity d ix → All (Inside (spotsWithin points limit) (length predicted / 2)) (take r (laid d' ix'))
+      given-by-strips h = given points limit predicted r2 d ix (drop front w) enough-behind r d' ix' did h
+
+      pub all-fit-by-strips : (t : ℕ) (e : List Float) (jx v : List ℕ) → r ≤ capacity d ix
+          → outcome (Matches t) e jx v
+          ≡ placed (marks points limit predicted) r (assigned [] (merged notAfter (take r (laid d' ix')))) d' ix'
+          (take (length w - front) (drop front (clearedN front w')))
+          → outcome (Matches t) e jx (take front (clearedN front w') ++ (v ++ drop (length w - front) (drop front (clearedN front w'))))
+          ≡ greedyByStrips points limit predicted r2 d ix w
+      all-fit-by-strips t e jx v h settled =
+          rw (rest-back front w w' same v)
+          (behind-front (Matches t) e jx v
+          (settled ∙ rw (lent-rest front w w' same) (all-fit points limit predicted r2 d ix (drop front w) enough-behind r d' ix' did h)))

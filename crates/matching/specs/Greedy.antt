@@ -94,3 +94,20 @@ greedyUniqueMatches points limit predicted r2 distances indices work =
     (cond (ltb (capacity distances indices) (length (pairs points limit predicted r2)))
     (overfull distances indices work)
     (placed (marks points limit predicted) (length (pairs points limit predicted r2)) (matchesOf points limit predicted r2) distances indices work))
+
+-- ---- with room for strips
+
+-- The places that the strips need: two for each spot within the limit.
+abbrev pub stripRoom : List Float → ℕ → ℕ
+stripRoom points limit = 2 * spotsWithin points limit
+
+-- The same answer, with lent room in front of the marks where the spots are sorted into strips; it is left zero.
+unfoldable pub greedyByStrips : List Float → ℕ → List Float → Float → List Float → List ℕ → List ℕ → Outcome
+unfolding greedyUniqueMatches
+greedyByStrips points limit predicted r2 distances indices work =
+    cond (ltb (length work) (stripRoom points limit + needed points limit predicted))
+    (record { answer = Short; distances = distances; indices = indices; work = work })
+    (behind (greedyUniqueMatches points limit predicted r2 distances indices (drop (stripRoom points limit) work)))
+  where
+    behind : Outcome → Outcome
+    behind o = record { answer = o .answer; distances = o .distances; indices = o .indices; work = replicate (stripRoom points limit) 0 ++ o .work }

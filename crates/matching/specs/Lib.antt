@@ -3,3 +3,4 @@ pub mod Merge
 pub mod Greedy
 pub mod Ordered
 pub mod Layout
+pub mod Strips

@@ -4,7 +4,7 @@ ghost use mathlib.Core.List.{[]};
 ghost use Prim.Native.Nat.{_+_, _*_, _≤_, min};
 ghost use lib.ListN.{length, take};
 ghost use Rattle.matching.specs.Merge.{notAfter, merged};
-ghost use Rattle.matching.specs.Greedy.{Outcome, assigned, placed, greedyUniqueMatches};
+ghost use Rattle.matching.specs.Greedy.{Outcome, assigned, placed, greedyUniqueMatches, greedyByStrips};
 ghost use Rattle.matching.specs.Ordered.{All};
 ghost use Rattle.matching.specs.Layout.{Inside, laid, outcome};
 
@@ -12,6 +12,7 @@ mod assign;
 mod lists;
 mod merge;
 mod pairs;
+mod strips;
 
 // What the matcher answers.
 pub enum Matched {
@@ -73,4 +74,44 @@ pub fn greedy_unique_matches(
         return Matched::TooMany;
     }
     Matched::Matches(settle(np, nq, m, distances, indices, work))
+}
+
+// The same matches, found more quickly: `work` has room in front of the marks, two places for each spot, where the spots are sorted into strips, so
+// that a prediction is tried only with the spots of the strips near it. That room is left zero.
+pub fn greedy_unique_matches_by_strips(
+    points: &[f64],
+    max_points: usize,
+    predicted: &[f64],
+    radius_sq: f64,
+    distances: &mut [f64],
+    indices: &mut [usize],
+    work: &mut [usize],
+) -> Matched
+    ensures { λ r. ⌜ _≡_ {A = Outcome} (record { answer = r; distances = now (distances .exit); indices = now (indices .exit); work = now (work .exit) }) (greedyByStrips (now (points .entry)) «max_points» (now (predicted .entry)) «radius_sq» (now (distances .entry)) (now (indices .entry)) (now (work .entry))) ⌝ }
+{
+    let np = lists::smaller(points.len() / 2, max_points);
+    let nq = predicted.len() / 2;
+    let room = 2 * np;
+    let end = work.len();
+    if end < room + np + nq + 2 * lists::smaller(np, nq) {
+        return Matched::Short;
+    }
+    let cap = lists::smaller(distances.len() / 2, indices.len() / 4);
+    let m = strips::collect(
+        points,
+        np,
+        predicted,
+        radius_sq,
+        distances,
+        indices,
+        cap,
+        work,
+    );
+    lists::clear_numbers(work, room);
+    if cap < m {
+        lists::clear_floats(distances, cap);
+        lists::clear_numbers(indices, 2 * cap);
+        return Matched::TooMany;
+    }
+    Matched::Matches(settle(np, nq, m, distances, indices, &mut work[room..end]))
 }

@@ -6,15 +6,16 @@ use Prim.Native.Nat.{ℕ, _+_, _*_, _-_, _/_, _≤_, _<_, min}
 use native.Mathlib.Omega.{arith}
 use borrow.Author.Tests.{le-ltb}
 use lib.Dec.{ltb}
-use lib.ListN.{length, getD, take, drop, replicate, length-append, length-take, length-drop, length-replicate, getD-replicate, List·getD-append}
+use lib.ListN.{length, getD, take, drop, replicate, length-append, length-take, length-drop, length-replicate, getD-replicate, replicate-append-replicate, List·getD-append}
 use lib.Seq.{slice, length-take-le, take-add, take-at, drop-at, take-take, getD-take, getD-append-add, length-slice}
 use lib.Ieee.{Float}
 use Rattle.matching.specs.Pairs.{pairs, spotsWithin}
-use Rattle.matching.specs.Greedy.{Match, flat, matchesOf, capacity, placed, overfull, Outcome, greedyUniqueMatches}
+use Rattle.matching.specs.Greedy.{Match, flat, matchesOf, capacity, placed, overfull, Outcome, greedyUniqueMatches, greedyByStrips}
 use Rattle.matching.specs.declared.Matched.{Matched}
 use Rattle.matching.specs.declared.Matched.the-variants.{Matches, TooMany}
 use Rattle.wcs_refine.specs.Listing.{renamedBy}
 use Rattle.wcs_refine.specs.Comparing.{NewAt}
+use Rattle.wcs_refine.proofs.FewMatches.{few-matches}
 use Rattle.wcs_refine.proofs.NewMatches.{flat-many, renamed-many}
 
 -- ---- parts of lists
@@ -47,7 +48,7 @@ module _ (n q : ℕ) (spots : List Float) (limit : ℕ) (floats : List Float) (r
   points = slice (2 * n) (2 * n + 2 * q) floats
 
   abbrev work : List ℕ
-  work = take (6 * n - 4 * n) (drop (4 * n) o)
+  work = take (8 * n - 4 * n) (drop (4 * n) o)
 
   abbrev within : ℕ
   within = spotsWithin spots limit
@@ -61,41 +62,56 @@ module _ (n q : ℕ) (spots : List Float) (limit : ℕ) (floats : List Float) (r
   points-many : length points / 2 ≡ q
   points-many = omega (arith, length-slice (2 * n) (2 * n + 2 * q) floats (omega arith))
 
-  work-many : length work ≡ 2 * n
-  work-many = omega (arith, length-take (6 * n - 4 * n) (drop (4 * n) o), length-drop (4 * n) o)
+  work-many : length work ≡ 4 * n
+  work-many = omega (arith, length-take (8 * n - 4 * n) (drop (4 * n) o), length-drop (4 * n) o)
+
+  -- the places behind the strips, and what stands in front of them in the end
+  abbrev inner : List ℕ
+  inner = drop (2 * within) work
+
+  abbrev behindStrips : Outcome → Outcome
+  behindStrips z = outcomeOf (z .answer) (z .distances) (z .indices) (replicate (2 * within) 0 ++ z .work)
+
+  abbrev fitted : Outcome
+  fitted = placed (within + length points / 2) (length (pairs spots limit points r2)) found d ix inner
 
   module _ {x : Matched} {d' : List Float} {ix' w : List ℕ}
-      (did : outcomeOf x d' ix' w ≡ greedyUniqueMatches spots limit (take (2 * n + 2 * q - 2 * n) (drop (2 * n) floats)) r2 d ix work) where
-    enough : within + length points / 2 + 2 * min within (length points / 2) ≤ length work
+      (did : outcomeOf x d' ix' w ≡ greedyByStrips spots limit (take (2 * n + 2 * q - 2 * n) (drop (2 * n) floats)) r2 d ix work) where
+    enough : 2 * within + (within + length points / 2 + 2 * min within (length points / 2)) ≤ length work
     enough = omega (arith, points-many, work-many)
 
-    told : outcomeOf x d' ix' w ≡ cond over (overfull d ix work) (placed (within + length points / 2) (length (pairs spots limit points r2)) found d ix work)
-    unfolding greedyUniqueMatches
+    told : outcomeOf x d' ix' w ≡ behindStrips (cond over (overfull d ix inner) fitted)
+    unfolding greedyByStrips greedyUniqueMatches
     told =
-        did ∙ ap (λ (z : List Float). greedyUniqueMatches spots limit z r2 d ix work) (part-is (2 * n) (2 * n + 2 * q) floats (omega arith) (omega arith))
-        ∙ ap
-        (λ (b : Bool). cond b (outcomeOf Matched.Short d ix work)
-        (cond over (overfull d ix work) (placed (within + length points / 2) (length (pairs spots limit points r2)) found d ix work)))
-        (le-ltb (length work) (within + length points / 2 + 2 * min within (length points / 2)) enough)
+        did ∙ ap (λ (z : List Float). greedyByStrips spots limit z r2 d ix work) (part-is (2 * n) (2 * n + 2 * q) floats (omega arith) (omega arith))
+        ∙ ap (λ (b : Bool). cond b (outcomeOf Matched.Short d ix work) (behindStrips (greedyUniqueMatches spots limit points r2 d ix inner)))
+        (le-ltb (length work) (2 * within + (within + length points / 2 + 2 * min within (length points / 2))) enough)
+        ∙ ap (λ (b : Bool). behindStrips (cond b (outcomeOf Matched.Short d ix inner) (cond over (overfull d ix inner) fitted)))
+        (le-ltb (length inner) (within + length points / 2 + 2 * min within (length points / 2)) (omega (arith, enough, length-drop (2 * within) work)))
 
     if-over : over ≡ true → x ≡ TooMany
     unfolding overfull
-    if-over e =
-        ap (λ (z : Outcome). z .answer)
-        (told ∙ ap (λ (b : Bool). cond b (overfull d ix work) (placed (within + length points / 2) (length (pairs spots limit points r2)) found d ix work)) e)
+    if-over e = ap (λ (z : Outcome). z .answer) (told ∙ ap (λ (b : Bool). behindStrips (cond b (overfull d ix inner) fitted)) e)
 
-    if-fits : over ≡ false → outcomeOf x d' ix' w ≡ placed (within + length points / 2) (length (pairs spots limit points r2)) found d ix work
-    if-fits e = told ∙ ap (λ (b : Bool). cond b (overfull d ix work) (placed (within + length points / 2) (length (pairs spots limit points r2)) found d ix work)) e
+    if-fits : over ≡ false → outcomeOf x d' ix' w ≡ behindStrips fitted
+    if-fits e = told ∙ ap (λ (b : Bool). behindStrips (cond b (overfull d ix inner) fitted)) e
 
     fits-answer : over ≡ false → x ≡ Matches (length found)
     unfolding placed
     fits-answer e = ap (λ (z : Outcome). z .answer) (if-fits e)
 
-    fits-work : over ≡ false → w ≡ replicate (within + q) 0 ++ flat found ++ drop (within + q + 2 * length found) work
+    fits-work : over ≡ false → w ≡ replicate (3 * within + q) 0 ++ flat found ++ drop (within + q + 2 * length found) inner
     unfolding placed
     fits-work e =
+        let marks : List ℕ = replicate (within + q) 0 in
+        let rest = drop (within + q + 2 * length found) inner in
+        let all : 2 * within + (within + q) ≡ 3 * within + q = omega arith in
         ap (λ (z : Outcome). z .work) (if-fits e)
-        ∙ ap (λ (k : ℕ). replicate (within + k) 0 ++ flat found ++ drop (within + k + 2 * length found) work) points-many
+        ∙ ap (λ (k : ℕ). replicate (2 * within) 0 ++ (replicate (within + k) 0 ++ flat found ++ drop (within + k + 2 * length found) inner)) points-many
+        ∙ sym (append-assoc (replicate (2 * within) 0) (marks ++ flat found) rest)
+        ∙ ap (λ (l : List ℕ). l ++ rest) (sym (append-assoc (replicate (2 * within) 0) marks (flat found)))
+        ∙ ap (λ (l : List ℕ). l ++ flat found ++ rest) (replicate-append-replicate (2 * within) (within + q) 0)
+        ∙ ap (λ (k : ℕ). replicate k 0 ++ flat found ++ rest) all
 
     -- no count of matches: too many pairs
     pub too-many : ((t : ℕ) → x ≡ Matches t → ⊥) → true ≡ over
@@ -117,7 +133,7 @@ module _ (n q : ℕ) (spots : List Float) (limit : ℕ) (floats : List Float) (r
       count-is = let f : x ≡ Matches (length found) = fits-answer (sym not-over) in cc
 
       -- how far the matches reach
-      pub reach : within + q + 2 * t ≤ 2 * n
+      pub reach : 3 * within + q + 2 * t ≤ 4 * n
       reach =
           let e = fits-work (sym not-over) in
           omega (
@@ -126,31 +142,32 @@ module _ (n q : ℕ) (spots : List Float) (limit : ℕ) (floats : List Float) (r
             kept,
             work-many,
             ap length e,
-            length-append (replicate (within + q) 0 ++ flat found) (drop (within + q + 2 * length found) work),
-            length-append (replicate (within + q) 0) (flat found),
-            length-replicate {A = ℕ} (within + q) 0,
-            length-drop (within + q + 2 * length found) work,
+            length-append (replicate (3 * within + q) 0 ++ flat found) (drop (within + q + 2 * length found) inner),
+            length-append (replicate (3 * within + q) 0) (flat found),
+            length-replicate {A = ℕ} (3 * within + q) 0,
+            length-drop (within + q + 2 * length found) inner,
+            length-drop (2 * within) work,
             flat-many found,
           )
 
       -- the list with the matcher's part back in its place
-      module _ {o' : List ℕ} (back : o' ≡ take (4 * n) o ++ (w ++ drop (6 * n - 4 * n) (drop (4 * n) o))) where
+      module _ {o' : List ℕ} (back : o' ≡ take (4 * n) o ++ (w ++ drop (8 * n - 4 * n) (drop (4 * n) o))) where
         pub long : length o' ≡ length o
         long =
             omega (
               arith,
               ap length back,
-              length-append (take (4 * n) o) (w ++ drop (6 * n - 4 * n) (drop (4 * n) o)),
-              length-append w (drop (6 * n - 4 * n) (drop (4 * n) o)),
+              length-append (take (4 * n) o) (w ++ drop (8 * n - 4 * n) (drop (4 * n) o)),
+              length-append w (drop (8 * n - 4 * n) (drop (4 * n) o)),
               kept,
               work-many,
               length-take (4 * n) o,
-              length-drop (6 * n - 4 * n) (drop (4 * n) o),
+              length-drop (8 * n - 4 * n) (drop (4 * n) o),
               length-drop (4 * n) o,
             )
 
         abbrev behind : List ℕ
-        behind = drop (within + q + 2 * length found) work ++ drop (6 * n - 4 * n) (drop (4 * n) o)
+        behind = drop (within + q + 2 * length found) inner ++ drop (8 * n - 4 * n) (drop (4 * n) o)
 
         front-many : length (take (4 * n) o) ≡ 4 * n
         front-many = length-take-le (4 * n) o (omega arith)
@@ -158,30 +175,30 @@ module _ (n q : ℕ) (spots : List Float) (limit : ℕ) (floats : List Float) (r
         front-same : take (4 * n) o' ≡ take (4 * n) o
         front-same = ap (take (4 * n)) back ∙ take-at (take (4 * n) o) _ (4 * n) front-many
 
-        apart : o' ≡ take (4 * n) o ++ replicate (within + q) 0 ++ flat found ++ behind
-        apart = back ∙ ap (λ (l : List ℕ). take (4 * n) o ++ (l ++ drop (6 * n - 4 * n) (drop (4 * n) o))) (fits-work (sym not-over)) ∙ simp append-assoc
+        apart : o' ≡ take (4 * n) o ++ replicate (3 * within + q) 0 ++ flat found ++ behind
+        apart = back ∙ ap (λ (l : List ℕ). take (4 * n) o ++ (l ++ drop (8 * n - 4 * n) (drop (4 * n) o))) (fits-work (sym not-over)) ∙ simp append-assoc
 
-        marks-many : length (take (4 * n) o ++ replicate (within + q) 0) ≡ 4 * n + within + q
-        marks-many = omega (arith, length-append (take (4 * n) o) (replicate (within + q) 0), front-many, length-replicate {A = ℕ} (within + q) 0)
+        marks-many : length (take (4 * n) o ++ replicate (3 * within + q) 0) ≡ 4 * n + 3 * within + q
+        marks-many = omega (arith, length-append (take (4 * n) o) (replicate (3 * within + q) 0), front-many, length-replicate {A = ℕ} (3 * within + q) 0)
 
-        matches-there : slice (4 * n + within + q) (4 * n + within + q + 2 * t) o' ≡ flat found
+        matches-there : slice (4 * n + 3 * within + q) (4 * n + 3 * within + q + 2 * t) o' ≡ flat found
         matches-there =
-            ap (λ (l : List ℕ). slice (4 * n + within + q) (4 * n + within + q + 2 * t) l) apart
-            ∙ slice-at (take (4 * n) o ++ replicate (within + q) 0) (flat found) behind (4 * n + within + q) (2 * t) marks-many (omega (arith, flat-many found, count-is))
+            ap (λ (l : List ℕ). slice (4 * n + 3 * within + q) (4 * n + 3 * within + q + 2 * t) l) apart
+            ∙ slice-at (take (4 * n) o ++ replicate (3 * within + q) 0) (flat found) behind (4 * n + 3 * within + q) (2 * t) marks-many (omega (arith, flat-many found, count-is))
 
         zero-there : (s : ℕ) → s < within → getD o' (4 * n + s) 0 ≡ 0
         zero-there s h =
-            let p : s < length (replicate {A = ℕ} (within + q) 0) = omega (arith, length-replicate {A = ℕ} (within + q) 0) in
-            let u : 4 * n + s < length (take (4 * n) o ++ replicate (within + q) 0) = omega (arith, marks-many) in
-            let v : 4 * n + s < length (take (4 * n) o ++ replicate (within + q) 0 ++ flat found) =
-            omega (arith, marks-many, length-append (take (4 * n) o ++ replicate (within + q) 0) (flat found)) in
+            let p : s < length (replicate {A = ℕ} (3 * within + q) 0) = omega (arith, length-replicate {A = ℕ} (3 * within + q) 0) in
+            let u : 4 * n + s < length (take (4 * n) o ++ replicate (3 * within + q) 0) = omega (arith, marks-many) in
+            let v : 4 * n + s < length (take (4 * n) o ++ replicate (3 * within + q) 0 ++ flat found) =
+            omega (arith, marks-many, length-append (take (4 * n) o ++ replicate (3 * within + q) 0) (flat found)) in
             let e : 4 * n + s ≡ length (take (4 * n) o) + s = omega (arith, front-many) in
             ap (λ (l : List ℕ). getD l (4 * n + s) 0) apart
-            ∙ List·getD-append (take (4 * n) o ++ replicate (within + q) 0 ++ flat found) behind 0 (4 * n + s) v
-            ∙ List·getD-append (take (4 * n) o ++ replicate (within + q) 0) (flat found) 0 (4 * n + s) u
-            ∙ ap (λ (k : ℕ). getD (take (4 * n) o ++ replicate (within + q) 0) k 0) e
-            ∙ getD-append-add (take (4 * n) o) (replicate (within + q) 0) s 0
-            ∙ getD-replicate (within + q) s 0 0 (omega arith)
+            ∙ List·getD-append (take (4 * n) o ++ replicate (3 * within + q) 0 ++ flat found) behind 0 (4 * n + s) v
+            ∙ List·getD-append (take (4 * n) o ++ replicate (3 * within + q) 0) (flat found) 0 (4 * n + s) u
+            ∙ ap (λ (k : ℕ). getD (take (4 * n) o ++ replicate (3 * within + q) 0) k 0) e
+            ∙ getD-append-add (take (4 * n) o) (replicate (3 * within + q) 0) s 0
+            ∙ getD-replicate (3 * within + q) s 0 0 (omega arith)
 
         abbrev ids : List ℕ
         ids = slice (3 * n) (3 * n + q) o
@@ -191,19 +208,19 @@ module _ (n q : ℕ) (spots : List Float) (limit : ℕ) (floats : List Float) (r
 
         -- and after the renaming
         new-there : {after : List ℕ} → length after ≡ length o'
-            → after ≡ take (8 * n) o' ++ renamedBy (slice (3 * n) (3 * n + q) o') (slice (4 * n + within + q) (4 * n + within + q + 2 * t) o') ++ drop (8 * n + 2 * t) o'
+            → after ≡ take (8 * n) o' ++ renamedBy (slice (3 * n) (3 * n + q) o') (slice (4 * n + 3 * within + q) (4 * n + 3 * within + q + 2 * t) o') ++ drop (8 * n + 2 * t) o'
             → NewAt n within t (renamedBy ids (flat found)) o after
         new-there {after} same e =
             let new = renamedBy ids (flat found) in
             let f : after ≡ take (8 * n) o' ++ new ++ drop (8 * n + 2 * t) o' =
-            e ∙ ap (λ (l : List ℕ). take (8 * n) o' ++ renamedBy l (slice (4 * n + within + q) (4 * n + within + q + 2 * t) o') ++ drop (8 * n + 2 * t) o') ids-same
+            e ∙ ap (λ (l : List ℕ). take (8 * n) o' ++ renamedBy l (slice (4 * n + 3 * within + q) (4 * n + 3 * within + q + 2 * t) o') ++ drop (8 * n + 2 * t) o') ids-same
             ∙ ap (λ (l : List ℕ). take (8 * n) o' ++ renamedBy ids l ++ drop (8 * n + 2 * t) o') matches-there in
             let before : length (take (8 * n) o') ≡ 8 * n = length-take-le (8 * n) o' (omega (arith, long)) in
             let first : take (8 * n) after ≡ take (8 * n) o' =
             ap (take (8 * n)) (f ∙ append-assoc (take (8 * n) o') new (drop (8 * n + 2 * t) o')) ∙ take-at (take (8 * n) o') (new ++ drop (8 * n + 2 * t) o') (8 * n) before in
             let half : 4 * n ≤ 8 * n = omega arith in
             record {
-              room = omega (arith, reach);
+              room = omega (arith, count-is, few-matches spots limit points r2);
               long = same ∙ long;
               front = sym (take-take (4 * n) (8 * n) after half) ∙ ap (take (4 * n)) first ∙ take-take (4 * n) (8 * n) o' half ∙ front-same;
               zeros = λ s h.
@@ -214,9 +231,9 @@ module _ (n q : ℕ) (spots : List Float) (limit : ℕ) (floats : List Float) (r
             }
 
         pub found-there : {v : ℕ} {after : List ℕ} → v ≡ within → length after ≡ length o'
-            → after ≡ take (8 * n) o' ++ renamedBy (slice (3 * n) (3 * n + q) o') (slice (4 * n + v + q) (4 * n + v + q + 2 * t) o') ++ drop (8 * n + 2 * t) o'
+            → after ≡ take (8 * n) o' ++ renamedBy (slice (3 * n) (3 * n + q) o') (slice (4 * n + 3 * v + q) (4 * n + 3 * v + q + 2 * t) o') ++ drop (8 * n + 2 * t) o'
             → NewAt n v t (renamedBy ids (flat found)) o after
         found-there {v} {after} u same e =
             subst (λ (k : ℕ). NewAt n k t (renamedBy ids (flat found)) o after) (sym u)
             (new-there same
-            (e ∙ ap (λ (k : ℕ). take (8 * n) o' ++ renamedBy (slice (3 * n) (3 * n + q) o') (slice (4 * n + k + q) (4 * n + k + q + 2 * t) o') ++ drop (8 * n + 2 * t) o') u))
+            (e ∙ ap (λ (k : ℕ). take (8 * n) o' ++ renamedBy (slice (3 * n) (3 * n + q) o') (slice (4 * n + 3 * k + q) (4 * n + 3 * k + q + 2 * t) o') ++ drop (8 * n + 2 * t) o') u))

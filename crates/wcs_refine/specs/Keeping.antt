@@ -1,6 +1,6 @@
 -- Where the code keeps a round's state, and what its steps answer. Definitions only. Assumes nothing.
 -- Of n places a region: the list of whole numbers has the matches from 0 on (two regions), the cached directions (2), those of the predictions (3),
--- the matcher's work (4 and 5) and the new matches (8 and 9); the list of floats has the residuals with scratch (0 and 1) and the predictions' points (2 and 3).
+-- the matcher's work (4 to 7) and the new matches (8 and 9); the list of floats has the residuals with scratch (0 and 1) and the predictions' points (2 and 3).
 use mathlib.Core.Path.{_≡_}
 use Prim.Native.Nat.{ℕ, zero, suc, _+_, _*_, _/_, _≤_}
 use mathlib.Core.Bool.{Bool, true, false}

@@ -13,7 +13,7 @@ use crate::keeping::with_used;
 use crate::rename::renamed_into;
 use entry::Settings;
 use matching::Matched;
-use matching::greedy_unique_matches;
+use matching::greedy_unique_matches_by_strips;
 
 // The fewest matches that take the place of the present ones.
 const FEWEST: usize = 4;
@@ -37,7 +37,7 @@ fn smaller(a: usize, b: usize) -> usize
     if a < b { a } else { b }
 }
 
-// The matcher works in regions 4 and 5, which are as long as marks and matches can need; its matches go from there to region 8 by their directions.
+// The matcher works in regions 4 to 7, which are as long as strips, marks and matches can need; its matches go from there to region 8 by their directions.
 fn find(
     spots: &[f64],
     limit: usize,
@@ -56,8 +56,8 @@ fn find(
     let points = 2 * room;
     let end = points + 2 * q;
     let work = 4 * room;
-    let far = 6 * room;
-    let m = greedy_unique_matches(
+    let far = 8 * room;
+    let m = greedy_unique_matches_by_strips(
         spots,
         limit,
         &floats[points..end],
@@ -73,7 +73,7 @@ fn find(
             count: 0,
         };
     };
-    renamed_into(numbers, 3 * room, q, work + within + q, t, 8 * room);
+    renamed_into(numbers, 3 * room, q, work + 3 * within + q, t, 8 * room);
     Tally {
         full: false,
         within,

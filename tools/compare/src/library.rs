@@ -1,18 +1,17 @@
 //! Holds the static library's refinement call to the reference Rust: the answer bit for bit, the counts, and every list written to.
 
 mod linked;
+mod timing;
 
 use std::collections::BTreeMap;
-use std::hint::black_box;
-use std::time::Instant;
 
-use exposures::{field::Plan, record, rng::Rng};
+use exposures::{record, rng::Rng};
 use linked::{refine, Lists, Said};
 use reference::answer::bits;
-use reference::call::{self, Answer, Lent, Prepared};
+use reference::call::{self, Answer, Lent};
 use reference::record::{read_any, Exposure};
 
-const USAGE: &str = "library [--count N] [--full N] [--seed N] [--time]";
+const USAGE: &str = "library [--count N] [--full N] [--seed N] [--time] [--growth]";
 
 /// Lists filled with what must not matter, of lengths that vary about the needed ones.
 fn lent(r: &mut Rng, e: &Exposure, pairs: usize) -> Lists {
@@ -149,49 +148,13 @@ fn compare(seed: u64, count: u64, kind: Option<&str>, pairs: usize) {
     }
 }
 
-/// The least time of each side over some runs, taking turns.
-fn time(name: &str, e: &Exposure, pairs: usize, runs: usize) {
-    let n = 16 * (e.spots.len() / 2 + e.matches.len() / 2 + e.directions.len() / 3);
-    let mut l = Lists { numbers: vec![0; n], floats: vec![0.0; n], distances: vec![0.0; 2 * pairs], indices: vec![0; 4 * pairs], result: vec![0; 8192] };
-    let lent = Lent { wholes: n, floats: n, result: 8192, distances: 2 * pairs, indices: 4 * pairs, cells: None };
-    let prepared = Prepared::new(e, &lent);
-    let Ok(a) = call::refine(e, &lent, false) else { return };
-    let mut least = [f64::INFINITY; 2];
-    for _ in 0..runs {
-        let start = Instant::now();
-        black_box(refine(e, &mut l));
-        least[0] = least[0].min(start.elapsed().as_secs_f64());
-        let start = Instant::now();
-        black_box(call::check(e, &lent).and_then(|_| prepared.run(false)).is_ok());
-        least[1] = least[1].min(start.elapsed().as_secs_f64());
-    }
-    println!(
-        "{name}: {} spots, {} directions, {} matches, {} rounds, {} passes, {} queries: {:.1} us, Rust {:.1} us, ratio {:.2}",
-        e.spots.len() / 2, e.directions.len() / 3, a.result.matches.len(), a.counts[0], a.counts[1], a.counts[2],
-        least[0] * 1e6, least[1] * 1e6, least[0] / least[1]
-    );
-}
-
-/// Exposures of a given size: `dark` directions lie in the field without a spot, `elsewhere` anywhere on the sphere.
-fn times(name: &str, sizes: [usize; 4], pairs: usize, exposures: u64, runs: usize) {
-    for item in 0..exposures {
-        let mut r = Rng::new(77, item);
-        let mut p = Plan::ordinary(&mut r);
-        [p.pairs, p.strays, p.dark, p.elsewhere] = sizes;
-        (p.scale, p.half, p.radius, p.noise) = (1.0 / 16384.0, 1000.0, 6.0, 0.5);
-        (p.matches, p.wrong, p.outliers, p.far_off) = (p.pairs / 2, p.pairs / 20, p.pairs / 20, 4.0);
-        (p.limit, p.rounds) = (u32::MAX, 64);
-        let e = read_any(&p.take(&mut r).bytes()).unwrap();
-        time(&format!("{name} {item}"), &e, pairs, runs);
-    }
-}
-
 fn main() {
-    let (mut seed, mut count, mut full, mut timed) = (1, 0, 0, false);
+    let (mut seed, mut count, mut full) = (1, 0, 0);
+    let (mut timed, mut growth) = (false, false);
     let mut words = std::env::args().skip(1);
     while let Some(word) = words.next() {
-        if word == "--time" {
-            timed = true;
+        if word == "--time" || word == "--growth" {
+            *(if word == "--time" { &mut timed } else { &mut growth }) = true;
             continue;
         }
         let value: u64 = words.next().and_then(|v| v.parse().ok()).expect(USAGE);
@@ -209,8 +172,9 @@ fn main() {
         compare(seed, full, Some("full-size"), 1 << 20);
     }
     if timed {
-        times("64 / 256", [48, 16, 100, 108], 2048, 6, 2000);
-        times("4,096 / 65,536, whole sphere", [3000, 1096, 2000, 60_536], 1 << 20, 3, 5);
-        times("4,096 / 65,536, one field", [3000, 1096, 62_536, 0], 1 << 20, 1, 1);
+        timing::sizes();
+    }
+    if growth {
+        timing::growth();
     }
 }

@@ -1,7 +1,7 @@
 -- `greedy_unique_matches` meets its contract: each of its three answers, with what it leaves in the lists, is what the definition says.
 use mathlib.Core.Path.{_∙_}
 use native.Mathlib.Omega.{arith}
-use Rattle.matching.proofs.Whole.{too-short, too-many, given, all-fit}
+use Rattle.matching.proofs.Whole.{in-turn, too-short, too-many, given, all-fit}
 use borrow.Author.Needs.{needs}
 use Rattle.matching.proofs.greedy_unique_matches.Statement.{statement}
 use Rattle.matching.proofs.greedy_unique_matches.Tie as tie
@@ -61,9 +61,10 @@ returns-2 c =
     let s2 = q .before .smaller2 in
     let s1 = q .before .before .smaller in
     let a = q .before .before .before .before .before .before .before .before .args in
+    let did = in-turn _ _ _ _ _ _ _ _ _ _ (rw (t .smaller3 .ensures, s1 .ensures) at (l .collect .ensures)) in
     rw (e1 .ensures, e2 .ensures, t .smaller3 .ensures)
     (too-many (a .points .now) (a .max-points) (a .predicted .now) (a .radius-sq) (a .distances .now) (a .indices .now) (a .work .now)
-    (rw (s2 .ensures, s1 .ensures) at (q .if1 .left)) _ _ _ (rw (t .smaller3 .ensures, s1 .ensures) at (l .collect .ensures)) (rw (t .smaller3 .ensures) at (k .if2 .taken)))
+    (rw (s2 .ensures, s1 .ensures) at (q .if1 .left)) _ _ _ did (rw (t .smaller3 .ensures) at (k .if2 .taken)))
 
 settle-requires : tie.Need-settle-requires
 settle-requires c κs =
@@ -73,13 +74,14 @@ settle-requires c κs =
     let q = t .before in
     let s2 = q .before .smaller2 in
     let s1 = q .before .before .smaller in
-    let a = q .before .before .before .before .before .before .before .before .args in (
+    let a = q .before .before .before .before .before .before .before .before .args in
+    let did = in-turn _ _ _ _ _ _ _ _ _ _ (rw (t .smaller3 .ensures, s1 .ensures) at (l .collect .ensures)) in (
       omega (arith, k .if2 .left, t .smaller3 .ensures, l .collect .kept .1 .1 .1 .1 .0),
       omega (arith, k .if2 .left, t .smaller3 .ensures, l .collect .kept .1 .1 .1 .1 .1 .0),
       rw (← s2 .ensures) (q .if1 .left),
       rw (s1 .ensures)
           (given (a .points .now) (a .max-points) (a .predicted .now) (a .radius-sq) (a .distances .now) (a .indices .now) (a .work .now)
-          (rw (s2 .ensures, s1 .ensures) at (q .if1 .left)) _ _ _ (rw (t .smaller3 .ensures, s1 .ensures) at (l .collect .ensures)) (rw (t .smaller3 .ensures) at (k .if2 .left))),
+          (rw (s2 .ensures, s1 .ensures) at (q .if1 .left)) _ _ _ did (rw (t .smaller3 .ensures) at (k .if2 .left))),
     )
 
 same-length-3 : tie.Need-same-length-3
@@ -101,9 +103,10 @@ returns-3 c =
     let s2 = q .before .smaller2 in
     let s1 = q .before .before .smaller in
     let a = q .before .before .before .before .before .before .before .before .args in
+    let did = in-turn _ _ _ _ _ _ _ _ _ _ (rw (t .smaller3 .ensures, s1 .ensures) at (l .collect .ensures)) in
     (rw (s1 .ensures) at (u .settle .ensures))
     ∙ all-fit (a .points .now) (a .max-points) (a .predicted .now) (a .radius-sq) (a .distances .now) (a .indices .now) (a .work .now)
-    (rw (s2 .ensures, s1 .ensures) at (q .if1 .left)) _ _ _ (rw (t .smaller3 .ensures, s1 .ensures) at (l .collect .ensures)) (rw (t .smaller3 .ensures) at (k .if2 .left))
+    (rw (s2 .ensures, s1 .ensures) at (q .if1 .left)) _ _ _ did (rw (t .smaller3 .ensures) at (k .if2 .left))
 
 pub greedy-unique-matches-spec : {M : Type 1} → statement M
 greedy-unique-matches-spec =

@@ -1,13 +1,13 @@
 -- `collect` pushes the pairs of each spot. The invariant: what stands there, with the pairs that are to come, is what it is to be in the end.
 use mathlib.Core.Path.{_≡_, refl, sym, ap, _∙_}
-use mathlib.Core.List.{List}
+use mathlib.Core.List.{List, _++_}
 use Prim.Native.Nat.{ℕ, _+_, _-_, _/_, _<_, _≤_}
 use native.Mathlib.Omega.{arith}
 use lib.Ieee.{Float}
 use lib.ListN.{length}
-use Rattle.matching.specs.Pairs.{pointAt, pairsOf, pairsFrom}
+use Rattle.matching.specs.Pairs.{Pair, pointAt, pairsOf, pairsFrom}
 use Rattle.matching.specs.Layout.{Found, found, pushed}
-use Rattle.matching.proofs.Pushing.{pushed-full, pushed-count, pushed-append, pairs-spot}
+use Rattle.matching.proofs.Pushing.{part-done, part-full, pairs-spot}
 use borrow.Author.Needs.{needs}
 use Rattle.matching.proofs.pairs.collect.Statement.{statement}
 use Rattle.matching.proofs.pairs.collect.Tie as tie
@@ -23,18 +23,20 @@ abbrev μ-loop : tie.MeasureT-loop
 module _ (points : List Float) (np : ℕ) (predicted : List Float) (r2 : Float) (cap m i : ℕ) (d : List Float) (ix : List ℕ) (r : ℕ) (d' : List Float) (ix' : List ℕ) (end : Found)
     (more : i < np) (inv : pushed cap (found m d ix) (pairsFrom r2 points predicted i (np - i)) ≡ end)
     (did : found r d' ix' ≡ pushed cap (found m d ix) (pairsOf r2 predicted i (pointAt points i) 0 (length predicted / 2))) where
-  spot-done : pushed cap (found r d' ix') (pairsFrom r2 points predicted (i + 1) (np - (i + 1))) ≡ end
-  spot-done =
-      ap (λ (s : Found). pushed cap s (pairsFrom r2 points predicted (i + 1) (np - (i + 1)))) did
-      ∙ sym (pushed-append cap (found m d ix) (pairsOf r2 predicted i (pointAt points i) 0 (length predicted / 2)) (pairsFrom r2 points predicted (i + 1) (np - (i + 1))))
-      ∙ ap (pushed cap (found m d ix)) (sym (pairs-spot r2 points predicted np i more))
-      ∙ inv
+  abbrev this : List Pair
+  this = pairsOf r2 predicted i (pointAt points i) 0 (length predicted / 2)
+
+  abbrev rest : List Pair
+  rest = pairsFrom r2 points predicted (i + 1) (np - (i + 1))
+
+  whole : pushed cap (found m d ix) (this ++ rest) ≡ end
+  whole = ap (pushed cap (found m d ix)) (sym (pairs-spot r2 points predicted np i more)) ∙ inv
+
+  spot-done : pushed cap (found r d' ix') rest ≡ end
+  spot-done = part-done cap m d ix r d' ix' this rest end whole did
 
   overfull : m ≤ cap → cap < r → found r d' ix' ≡ end
-  overfull k h =
-      let few : r ≤ cap + 1 = rw (ap (λ (s : Found). s .count) did) (pushed-count cap m d ix (pairsOf r2 predicted i (pointAt points i) 0 (length predicted / 2)) (omega arith)) in
-      let e : r ≡ cap + 1 = omega arith in
-      rw e (sym (pushed-full cap d' ix' _) ∙ rw e at spot-done)
+  overfull = part-full cap m d ix r d' ix' this rest end whole did
 
 ended : (points : List Float) (np : ℕ) (predicted : List Float) (r2 : Float) (cap m i : ℕ) (d : List Float) (ix : List ℕ) (end : Found)
     → np ≤ i → pushed cap (found m d ix) (pairsFrom r2 points predicted i (np - i)) ≡ end → found m d ix ≡ end

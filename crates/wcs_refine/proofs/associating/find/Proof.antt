@@ -30,32 +30,32 @@ mul-work c = search needs
 mul-far : tie.Need-mul-far
 mul-far c = search needs
 
-mul-greedy-unique-matches : tie.Need-mul-greedy-unique-matches
-mul-greedy-unique-matches c = search needs
+mul-greedy-unique-matches-by-strips : tie.Need-mul-greedy-unique-matches-by-strips
+mul-greedy-unique-matches-by-strips c = search needs
 
-sub-greedy-unique-matches : tie.Need-sub-greedy-unique-matches
-sub-greedy-unique-matches c = search needs
+sub-greedy-unique-matches-by-strips : tie.Need-sub-greedy-unique-matches-by-strips
+sub-greedy-unique-matches-by-strips c = search needs
 
-part-greedy-unique-matches-start : tie.Need-part-greedy-unique-matches-start
-part-greedy-unique-matches-start c = search needs
+part-greedy-unique-matches-by-strips-start : tie.Need-part-greedy-unique-matches-by-strips-start
+part-greedy-unique-matches-by-strips-start c = search needs
 
-part-greedy-unique-matches-end : tie.Need-part-greedy-unique-matches-end
-part-greedy-unique-matches-end c = search needs
+part-greedy-unique-matches-by-strips-end : tie.Need-part-greedy-unique-matches-by-strips-end
+part-greedy-unique-matches-by-strips-end c = search needs
 
-mul-greedy-unique-matches-2 : tie.Need-mul-greedy-unique-matches-2
-mul-greedy-unique-matches-2 c = search needs
+mul-greedy-unique-matches-by-strips-2 : tie.Need-mul-greedy-unique-matches-by-strips-2
+mul-greedy-unique-matches-by-strips-2 c = search needs
 
-sub-greedy-unique-matches-2 : tie.Need-sub-greedy-unique-matches-2
-sub-greedy-unique-matches-2 c = search needs
+sub-greedy-unique-matches-by-strips-2 : tie.Need-sub-greedy-unique-matches-by-strips-2
+sub-greedy-unique-matches-by-strips-2 c = search needs
 
-part-greedy-unique-matches-start-2 : tie.Need-part-greedy-unique-matches-start-2
-part-greedy-unique-matches-start-2 c = search needs
+part-greedy-unique-matches-by-strips-start-2 : tie.Need-part-greedy-unique-matches-by-strips-start-2
+part-greedy-unique-matches-by-strips-start-2 c = search needs
 
-part-greedy-unique-matches-end-2 : tie.Need-part-greedy-unique-matches-end-2
-part-greedy-unique-matches-end-2 c = search needs
+part-greedy-unique-matches-by-strips-end-2 : tie.Need-part-greedy-unique-matches-by-strips-end-2
+part-greedy-unique-matches-by-strips-end-2 c = search needs
 
-greedy-unique-matches-requires : tie.Need-greedy-unique-matches-requires
-greedy-unique-matches-requires c κs = search needs
+greedy-unique-matches-by-strips-requires : tie.Need-greedy-unique-matches-by-strips-requires
+greedy-unique-matches-by-strips-requires c κs = search needs
 
 enum-known-m : tie.Need-enum-known-m
 enum-known-m c = search needs
@@ -76,7 +76,7 @@ returns c =
     let a = s .args in
     let within = g .before .before .before .before .before .smaller .ensures in
     record {
-      full = too-many (a .room) (a .q) (a .spots .now) (a .limit) (a .floats .now) (a .r ⊗ a .r) (a .distances .now) (a .indices .now) (a .numbers .now) (s .pre .0) (s .pre .1) (s .pre .2) (g .greedy-unique-matches .ensures)
+      full = too-many (a .room) (a .q) (a .spots .now) (a .limit) (a .floats .now) (a .r ⊗ a .r) (a .distances .now) (a .indices .now) (a .numbers .now) (s .pre .0) (s .pre .1) (s .pre .2) (g .greedy-unique-matches-by-strips .ensures)
           (λ t e. ⊎-elim (λ k. let z : _≡_ {A = ℕ} 0 1 = sym (ap (tagOf Matched.the-type) e) ∙ k in omega arith) (λ k. let z : _≡_ {A = ℕ} 0 2 = sym (ap (tagOf Matched.the-type) e) ∙ k in omega arith) (c .match .keys2));
       within = within;
       found = λ e. never refl e;
@@ -94,6 +94,9 @@ add-renamed-into-2 c = search needs
 mul-renamed-into-2 : tie.Need-mul-renamed-into-2
 mul-renamed-into-2 c = search needs
 
+mul-renamed-into-3 : tie.Need-mul-renamed-into-3
+mul-renamed-into-3 c = search needs
+
 renamed-into-requires : tie.Need-renamed-into-requires
 renamed-into-requires c κs =
     let g = c .before .before .before .before .before .before .before .before .before .before in
@@ -101,8 +104,8 @@ renamed-into-requires c κs =
     let a = s .args in
     let within = g .before .before .before .before .before .smaller .ensures in
     let is = c .before .before .m .given .1 in
-    let r = reach (a .room) (a .q) (a .spots .now) (a .limit) (a .floats .now) (a .r ⊗ a .r) (a .distances .now) (a .indices .now) (a .numbers .now) (s .pre .0) (s .pre .1) (s .pre .2) (g .greedy-unique-matches .ensures) is (g .greedy-unique-matches .kept .1 .1 .1 .1 .1 .1 .0) in
-    let l = long (a .room) (a .q) (a .spots .now) (a .limit) (a .floats .now) (a .r ⊗ a .r) (a .distances .now) (a .indices .now) (a .numbers .now) (s .pre .0) (s .pre .1) (s .pre .2) (g .greedy-unique-matches .ensures) is (g .greedy-unique-matches .kept .1 .1 .1 .1 .1 .1 .0) refl in
+    let r = reach (a .room) (a .q) (a .spots .now) (a .limit) (a .floats .now) (a .r ⊗ a .r) (a .distances .now) (a .indices .now) (a .numbers .now) (s .pre .0) (s .pre .1) (s .pre .2) (g .greedy-unique-matches-by-strips .ensures) is (g .greedy-unique-matches-by-strips .kept .1 .1 .1 .1 .1 .1 .0) in
+    let l = long (a .room) (a .q) (a .spots .now) (a .limit) (a .floats .now) (a .r ⊗ a .r) (a .distances .now) (a .indices .now) (a .numbers .now) (s .pre .0) (s .pre .1) (s .pre .2) (g .greedy-unique-matches-by-strips .ensures) is (g .greedy-unique-matches-by-strips .kept .1 .1 .1 .1 .1 .1 .0) refl in
     (omega (arith, l, s .pre .0, s .pre .1), omega (arith, l, r, within, s .pre .0, s .pre .1), omega (arith, l, r, s .pre .0, s .pre .1), inl (omega (arith, s .pre .0)), inl (omega (arith, r, within, s .pre .0)))
 
 same-length-4 : tie.Need-same-length-4
@@ -122,11 +125,11 @@ returns-2 c =
     let within = g .before .before .before .before .before .smaller .ensures in
     let is = c .before .before .before .before .before .m .given .1 in
     record {
-      full = not-over (a .room) (a .q) (a .spots .now) (a .limit) (a .floats .now) (a .r ⊗ a .r) (a .distances .now) (a .indices .now) (a .numbers .now) (s .pre .0) (s .pre .1) (s .pre .2) (g .greedy-unique-matches .ensures) is (g .greedy-unique-matches .kept .1 .1 .1 .1 .1 .1 .0);
+      full = not-over (a .room) (a .q) (a .spots .now) (a .limit) (a .floats .now) (a .r ⊗ a .r) (a .distances .now) (a .indices .now) (a .numbers .now) (s .pre .0) (s .pre .1) (s .pre .2) (g .greedy-unique-matches-by-strips .ensures) is (g .greedy-unique-matches-by-strips .kept .1 .1 .1 .1 .1 .1 .0);
       within = within;
       found = λ e. (
-        count-is (a .room) (a .q) (a .spots .now) (a .limit) (a .floats .now) (a .r ⊗ a .r) (a .distances .now) (a .indices .now) (a .numbers .now) (s .pre .0) (s .pre .1) (s .pre .2) (g .greedy-unique-matches .ensures) is (g .greedy-unique-matches .kept .1 .1 .1 .1 .1 .1 .0),
-        found-there (a .room) (a .q) (a .spots .now) (a .limit) (a .floats .now) (a .r ⊗ a .r) (a .distances .now) (a .indices .now) (a .numbers .now) (s .pre .0) (s .pre .1) (s .pre .2) (g .greedy-unique-matches .ensures) is (g .greedy-unique-matches .kept .1 .1 .1 .1 .1 .1 .0) refl within (c .before .before .renamed-into .kept .0) (c .before .before .renamed-into .ensures),
+        count-is (a .room) (a .q) (a .spots .now) (a .limit) (a .floats .now) (a .r ⊗ a .r) (a .distances .now) (a .indices .now) (a .numbers .now) (s .pre .0) (s .pre .1) (s .pre .2) (g .greedy-unique-matches-by-strips .ensures) is (g .greedy-unique-matches-by-strips .kept .1 .1 .1 .1 .1 .1 .0),
+        found-there (a .room) (a .q) (a .spots .now) (a .limit) (a .floats .now) (a .r ⊗ a .r) (a .distances .now) (a .indices .now) (a .numbers .now) (s .pre .0) (s .pre .1) (s .pre .2) (g .greedy-unique-matches-by-strips .ensures) is (g .greedy-unique-matches-by-strips .kept .1 .1 .1 .1 .1 .1 .0) refl within (c .before .before .renamed-into .kept .0) (c .before .before .renamed-into .ensures),
       );
     }
 
@@ -140,24 +143,25 @@ find-spec =
     add-end
     mul-work
     mul-far
-    mul-greedy-unique-matches
-    sub-greedy-unique-matches
-    part-greedy-unique-matches-start
-    part-greedy-unique-matches-end
-    mul-greedy-unique-matches-2
-    sub-greedy-unique-matches-2
-    part-greedy-unique-matches-start-2
-    part-greedy-unique-matches-end-2
-    greedy-unique-matches-requires
+    mul-greedy-unique-matches-by-strips
+    sub-greedy-unique-matches-by-strips
+    part-greedy-unique-matches-by-strips-start
+    part-greedy-unique-matches-by-strips-end
+    mul-greedy-unique-matches-by-strips-2
+    sub-greedy-unique-matches-by-strips-2
+    part-greedy-unique-matches-by-strips-start-2
+    part-greedy-unique-matches-by-strips-end-2
+    greedy-unique-matches-by-strips-requires
     enum-known-m
     same-length
     same-length-2
     same-length-3
     returns
     mul-renamed-into
+    mul-renamed-into-2
     add-renamed-into
     add-renamed-into-2
-    mul-renamed-into-2
+    mul-renamed-into-3
     renamed-into-requires
     same-length-4
     same-length-5
