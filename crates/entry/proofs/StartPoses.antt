@@ -1,12 +1,14 @@
 -- The start pose step by step, and the greatest distance spot by spot. Assumes nothing.
-use mathlib.Core.Path.{_≡_, _∙_, ap, refl}
+use mathlib.Core.Path.{_≡_, _∙_, sym, ap, refl, subst}
 use mathlib.Core.List.{List, [], _∷_}
 use Prim.Native.Nat.{ℕ, suc, _+_, _-_, _≤_, _<_}
 use native.Mathlib.Numerals.{add-one}
 use native.Mathlib.Omega.{arith}
-use lib.Ieee.{Float, neg, ofBits}
-use Rattle.rounding.specs.Arith.{_⊗_, zero64, one64}
+use lib.Ieee.{Float, binary64, neg, ofBits}
+use Rattle.rounding.specs.Arith.{_⊕_, _⊗_, zero64, one64}
 use Rattle.rounding.specs.Methods.{maxF, clampF}
+use Rattle.rounding.specs.Root.{root}
+use Rattle.rounding.proofs.RootMax.{Plain, root-max, plain-max, plain-squares}
 use Rattle.angles.specs.SinCos.{sin, cos}
 use Rattle.angles.specs.Inverse.{asin, atan2}
 use Rattle.solve.specs.Constants.{minusOne}
@@ -14,27 +16,36 @@ use Rattle.solve.specs.Vector.{at, row, entry, dot}
 use Rattle.project.specs.Camera.{east, north}
 use Rattle.fit.specs.Rows.{spotAt}
 use Rattle.fit.specs.declared.Pose.{Pose}
+use Rattle.fit.specs.declared.Spot.{Spot}
 use Rattle.entry.specs.Arguments.{Given}
 use Rattle.entry.specs.Fixed.{distance, farthest, startPose}
 
 -- ---- the greatest distance
 
-module _ (spots : List Float) (n i : ℕ) (far : Float) {all : Float} (left : farthest spots i (n - i) far ≡ all) where
-  pub far-next : i < n → {d next : Float} → d ≡ distance (spotAt spots i) → next ≡ maxF far d → farthest spots (i + 1) (n - (i + 1)) next ≡ all
-  unfolding farthest
-  far-next h {d} {next} ed en =
+-- the greatest square so far, and the distances of the spots from i on
+module _ (spots : List Float) (n i : ℕ) (square : Float) (plain : Plain binary64 square) {all : Float} (left : farthest spots i (n - i) (root binary64 square) ≡ all) where
+  pub far-next : i < n → {s : Spot} {next : Float} → s ≡ spotAt spots i → next ≡ maxF square (s .px ⊗ s .px ⊕ s .py ⊗ s .py)
+      → Plain binary64 next × (farthest spots (i + 1) (n - (i + 1)) (root binary64 next) ≡ all)
+  unfolding farthest distance
+  far-next h {s} {next} es en =
+      let q = s .px ⊗ s .px ⊕ s .py ⊗ s .py in
+      let P : Plain binary64 q = plain-squares binary64 (s .px) (s .py) in
+      let far = root binary64 square in
       let e : n - i ≡ suc (n - (i + 1)) = omega arith in
-      let s : farthest spots i (n - i) far ≡ farthest spots (suc i) (n - (i + 1)) (maxF far (distance (spotAt spots i))) = ap (λ (k : ℕ). farthest spots i k far) e in
-      let m : next ≡ maxF far (distance (spotAt spots i)) = en ∙ ap (maxF far) ed in
-      let b : i + 1 ≡ suc i = add-one i in
-      cc
+      let t : farthest spots i (n - i) far ≡ farthest spots (suc i) (n - (i + 1)) (maxF far (distance (spotAt spots i))) = ap (λ (k : ℕ). farthest spots i k far) e in
+      let m : maxF far (distance (spotAt spots i)) ≡ root binary64 next =
+      ap (λ (s : Spot). maxF far (distance s)) (sym es) ∙ root-max binary64 square q plain P ∙ ap (root binary64) (sym en) in
+      let b : i + 1 ≡ suc i = add-one i in (
+        subst (Plain binary64) (sym en) (plain-max binary64 square q plain P),
+        ap (λ (j : ℕ). farthest spots j (n - (i + 1)) (root binary64 next)) b ∙ ap (farthest spots (suc i) (n - (i + 1))) (sym m) ∙ sym t ∙ left,
+      )
 
-  pub far-done : n ≤ i → far ≡ all
+  pub far-done : n ≤ i → {r : Float} → r ≡ root binary64 square → r ≡ all
   unfolding farthest
-  far-done h =
+  far-done h {r} er =
       let e : n - i ≡ 0 = omega arith in
-      let s : farthest spots i (n - i) far ≡ far = ap (λ (k : ℕ). farthest spots i k far) e in
-      cc
+      let s : farthest spots i (n - i) (root binary64 square) ≡ root binary64 square = ap (λ (k : ℕ). farthest spots i k (root binary64 square)) e in
+      er ∙ sym s ∙ left
 
 -- ---- the axes
 

@@ -7,7 +7,7 @@ ghost use Rattle.rounding.specs.Arith.{zero64};
 ghost use Rattle.solve.specs.Vector.{at};
 ghost use Rattle.project.specs.Camera.{east, north};
 ghost use Rattle.entry.specs.Arguments.{Call, Given};
-ghost use Rattle.entry.specs.Fixed.{distance, farthest, fixed, startPose, requeryMargin, searchRadius, requeryCos, radiusPx, pruneR, marginPx, keepR, thetaMargin};
+ghost use Rattle.entry.specs.Fixed.{farthest, fixed, startPose, requeryMargin, searchRadius, requeryCos, radiusPx, pruneR, marginPx, keepR, thetaMargin};
 ghost use Rattle.entry.specs.Entry.{Started, fixedOf};
 use crate::Settings;
 use crate::check::smaller;
@@ -16,7 +16,6 @@ use angles::atan2;
 use angles::cos;
 use angles::sin;
 use fit::Pose;
-use fit::Spot;
 use fit::spot_at;
 use project::PLANE_CUT;
 use project::dot;
@@ -25,24 +24,18 @@ use rounding::max;
 use rounding::sqrt64;
 use rounding::widen;
 
-// A spot's distance from the centre.
-pub fn distance(spot: Spot) -> f64
-    ensures { λ r. ⌜ r ≡ distance spot ⌝ }
-{
-    sqrt64(spot.px * spot.px + spot.py * spot.py)
-}
-
-// The greatest distance of the first n spots, or 0 if there are none.
+// The greatest distance of the first n spots, or 0 if there are none: the root of the greatest square.
 pub fn farthest_of(spots: &[f64], n: usize) -> f64
     ensures { λ r. ⌜ r ≡ farthest (now (spots .entry)) 0 n zero64 ⌝ }
 {
-    let mut far: f64 = 0.0;
+    let mut square: f64 = 0.0;
     let mut i: usize = 0;
     while i < n {
-        far = max(far, distance(spot_at(spots, i)));
+        let s = spot_at(spots, i);
+        square = max(square, s.px * s.px + s.py * s.py);
         i += 1;
     }
-    far
+    sqrt64(square)
 }
 
 pub fn settings_of(

@@ -12,7 +12,6 @@ pub use bounds::Rounds;
 pub use bounds::Scale;
 pub use bounds::Spots;
 pub use check::refusal_of;
-pub use head::distance;
 pub use head::farthest_of;
 pub use head::keep_r;
 pub use head::margin_px;

@@ -1,23 +1,23 @@
--- A root with b more digits by one division. B is 2 ^ b, and r * B + m is x * (2 * s) + u. Plain numbers only. Assumes nothing.
+-- A root with more digits by one division. B is a power of 2, and r * B is x * (2 * s) + u. Plain numbers only. Assumes nothing.
 use mathlib.Core.Path.{_≡_, sym, ap, _∙_}
 use Prim.Native.Nat.{ℕ, zero, suc, _+_, _-_, _*_, _/_, _%_, _^_, _≤_, _<_}
-use native.Mathlib.Nat.{le-trans, le-of-eq, le-of-suc-le-suc, lt-of-lt-of-le, mul-comm, mul-assoc, mul-left-comm, mul-mul-mul-comm, mul-le-mul, mul-le-mul-right, mul-add, add-mul, suc-mul, mod-lt, div-add-mod', div-lt-iff-lt-mul, mod-eq-of-lt, le-of-lt}
+use native.Mathlib.Nat.{le-trans, le-of-eq, le-of-suc-le-suc, lt-of-lt-of-le, mul-comm, mul-assoc, mul-left-comm, mul-mul-mul-comm, mul-le-mul, mul-le-mul-right, mul-add, add-mul, suc-mul, mod-lt, div-add-mod', div-lt-iff-lt-mul, mod-eq-of-lt}
 use native.Mathlib.Omega.{arith}
-use lib.Pow.{pow-mono}
-use Rattle.rounding.proofs.Place.{four, square-suc}
+use lib.Pow.{pow-pos}
+use Rattle.rounding.proofs.Place.{square-suc}
 use Rattle.rounding.proofs.Align.{less}
 
-module _ (s r B m l t : ℕ) (T : t ≡ r * B + m) (R : r ≤ 2 * s) (M : m < B) (L : l < B) (S : B ≤ 2 * s) where
+module _ (s r B t : ℕ) (T : t ≡ r * B) (R : r ≤ 2 * s) (S : B ≤ 2 * s) (P : 0 < B) where
   abbrev x : ℕ
   x = t / (2 * s)
 
   abbrev u : ℕ
   u = t % (2 * s)
 
-  pub s-pos : 0 < 2 * s
+  s-pos : 0 < 2 * s
   s-pos = omega arith
 
-  split : x * (2 * s) + u ≡ r * B + m
+  split : x * (2 * s) + u ≡ r * B
   split = div-add-mod' t (2 * s) ∙ T
 
   twice : 2 * s * B ≡ 2 * (s * B)
@@ -26,20 +26,17 @@ module _ (s r B m l t : ℕ) (T : t ≡ r * B + m) (R : r ≤ 2 * s) (M : m < B)
   pub x-le : x ≤ B
   x-le = le-of-suc-le-suc (div-lt-iff-lt-mul s-pos .1 (lt-of-lt-of-le (omega (arith, mul-le-mul-right B R)) (le-of-eq (sym (suc-mul B (2 * s) ∙ ap (λ (y : ℕ). y + 2 * s) (mul-comm B (2 * s)))))))
 
-  u-lt : u < 2 * s
-  u-lt = mod-lt t s-pos
-
   -- what is left once s and x are taken, before the square of x
-  pub have-lt : u * B + l < 2 * (s * B)
+  pub have-lt : u * B < 2 * (s * B)
   have-lt =
-      let a : suc u * B ≤ 2 * s * B = mul-le-mul-right B u-lt in
+      let a : suc u * B ≤ 2 * s * B = mul-le-mul-right B (mod-lt t s-pos) in
       let b : suc u * B ≡ u * B + B = suc-mul u B in
       omega (arith, twice)
 
-  pub square-le : x * x ≤ 2 * (s * B)
+  square-le : x * x ≤ 2 * (s * B)
   square-le = le-trans (mul-le-mul x-le x-le) (le-trans (mul-le-mul-right B S) (le-of-eq twice))
 
-  pub whole : (s * B + x) * (s * B + x) + (u * B + l) ≡ (s * s + r) * (B * B) + m * B + l + x * x
+  whole : (s * B + x) * (s * B + x) + u * B ≡ (s * s + r) * (B * B) + x * x
   whole =
       let a : (s * B + x) * (s * B + x) ≡ s * B * (s * B + x) + x * (s * B + x) = add-mul (s * B) x (s * B + x) in
       let b : s * B * (s * B + x) ≡ s * B * (s * B) + s * B * x = mul-add (s * B) (s * B) x in
@@ -48,21 +45,20 @@ module _ (s r B m l t : ℕ) (T : t ≡ r * B + m) (R : r ≤ 2 * s) (M : m < B)
       let e : s * B * (s * B) ≡ s * s * (B * B) = mul-mul-mul-comm s B s B in
       let f : (s * s + r) * (B * B) ≡ s * s * (B * B) + r * (B * B) = add-mul (s * s) r (B * B) in
       let g : r * (B * B) ≡ r * B * B = sym (mul-assoc r B B) in
-      let h : (x * (2 * s) + u) * B ≡ (r * B + m) * B = ap (λ (y : ℕ). y * B) split in
+      let h : (x * (2 * s) + u) * B ≡ r * B * B = ap (λ (y : ℕ). y * B) split in
       let i : (x * (2 * s) + u) * B ≡ x * (2 * s) * B + u * B = add-mul (x * (2 * s)) u B in
-      let j : (r * B + m) * B ≡ r * B * B + m * B = add-mul (r * B) m B in
       let k : x * (2 * s) * B ≡ 2 * (x * (s * B)) = mul-assoc x (2 * s) B ∙ ap (λ (y : ℕ). x * y) twice ∙ mul-left-comm x 2 (s * B) in
       omega arith
 
   -- the square of x is in what is left
-  pub fits-square : (w y : ℕ) → w ≡ s * B + x → y ≡ u * B + l → x * x ≤ y → (w * w + (y - x * x) ≡ (s * s + r) * (B * B) + m * B + l) × (y - x * x ≤ 2 * w)
+  pub fits-square : (w y : ℕ) → w ≡ s * B + x → y ≡ u * B → x * x ≤ y → (w * w + (y - x * x) ≡ (s * s + r) * (B * B)) × (y - x * x ≤ 2 * w)
   fits-square w y e i h =
       let k : w * w ≡ (s * B + x) * (s * B + x) = ap (λ (y : ℕ). y * y) e in
       (omega (arith, whole), omega (arith, have-lt))
 
   -- it is not, and the root is one less
-  pub one-less : (w y : ℕ) → w ≡ s * B + x → y ≡ u * B + l → y < x * x
-      → (0 < w) × (x * x ≤ y + 2 * w - 1) × ((w - 1) * (w - 1) + (y + 2 * w - 1 - x * x) ≡ (s * s + r) * (B * B) + m * B + l) × (y + 2 * w - 1 - x * x ≤ 2 * (w - 1))
+  pub one-less : (w y : ℕ) → w ≡ s * B + x → y ≡ u * B → y < x * x
+      → (0 < w) × (x * x ≤ y + 2 * w - 1) × ((w - 1) * (w - 1) + (y + 2 * w - 1 - x * x) ≡ (s * s + r) * (B * B)) × (y + 2 * w - 1 - x * x ≤ 2 * (w - 1))
   one-less w y e i h =
       let k : w * w ≡ (s * B + x) * (s * B + x) = ap (λ (y : ℕ). y * y) e in
       let p : 0 < w = omega (arith, have-lt) in
@@ -83,58 +79,50 @@ module _ (s r B m l t : ℕ) (T : t ≡ r * B + m) (R : r ≤ 2 * s) (M : m < B)
       x-pos (suc x) h = omega arith
 
 -- ---- as the machine has it: the dividend, the digits, the root and what is left
-abbrev pub dividend : ℕ → ℕ → ℕ → ℕ
-dividend r b m = r * 2 ^ b % 2 ^ 64 + m
+abbrev pub dividend : ℕ → ℕ
+dividend r = r * 2 ^ 22 % 2 ^ 64
 
-abbrev pub digits : ℕ → ℕ → ℕ → ℕ → ℕ
-digits s r b m = dividend r b m / (2 * s)
+abbrev pub digits : ℕ → ℕ → ℕ
+digits s r = dividend r / (2 * s)
 
-abbrev pub joined : ℕ → ℕ → ℕ → ℕ → ℕ
-joined s r b m = s * 2 ^ b % 2 ^ 64 + digits s r b m
+abbrev pub joined : ℕ → ℕ → ℕ
+joined s r = s * 2 ^ 22 % 2 ^ 64 + digits s r
 
-abbrev pub have : ℕ → ℕ → ℕ → ℕ → ℕ → ℕ
-have s r b m l = dividend r b m % (2 * s) * 2 ^ b % 2 ^ 64 + l
+abbrev pub have : ℕ → ℕ → ℕ
+have s r = dividend r % (2 * s) * 2 ^ 22 % 2 ^ 64
 
 -- what the proof of `longer` cites
-pub record Facts (s r b m l : ℕ) : Type 0 where
-  pub t-small : dividend r b m < 2 ^ 56
-  pub w-small : joined s r b m < 2 ^ 55
-  pub y-small : have s r b m l < 2 ^ 56
-  pub square-small : digits s r b m * digits s r b m ≤ 2 ^ 44
-  pub taken : digits s r b m * digits s r b m ≤ have s r b m l
-      → (joined s r b m * joined s r b m + (have s r b m l - digits s r b m * digits s r b m) ≡ (s * s + r) * 4 ^ b + m * 2 ^ b + l) × (have s r b m l - digits s r b m * digits s r b m ≤ 2 * joined s r b m)
-  pub left : have s r b m l < digits s r b m * digits s r b m
-      → (0 < joined s r b m)
-      × (digits s r b m * digits s r b m ≤ have s r b m l + 2 * joined s r b m - 1)
-      × ((joined s r b m - 1) * (joined s r b m - 1) + (have s r b m l + 2 * joined s r b m - 1 - digits s r b m * digits s r b m) ≡ (s * s + r) * 4 ^ b + m * 2 ^ b + l)
-      × (have s r b m l + 2 * joined s r b m - 1 - digits s r b m * digits s r b m ≤ 2 * (joined s r b m - 1))
+pub record Facts (s r : ℕ) : Type 0 where
+  pub w-small : joined s r < 2 ^ 55
+  pub y-small : have s r < 2 ^ 56
+  pub square-small : digits s r * digits s r ≤ 2 ^ 44
+  pub taken : digits s r * digits s r ≤ have s r
+      → (joined s r * joined s r + (have s r - digits s r * digits s r) ≡ (s * s + r) * 4 ^ 22) × (have s r - digits s r * digits s r ≤ 2 * joined s r)
+  pub left : have s r < digits s r * digits s r
+      → (0 < joined s r)
+      × (digits s r * digits s r ≤ have s r + 2 * joined s r - 1)
+      × ((joined s r - 1) * (joined s r - 1) + (have s r + 2 * joined s r - 1 - digits s r * digits s r) ≡ (s * s + r) * 4 ^ 22)
+      × (have s r + 2 * joined s r - 1 - digits s r * digits s r ≤ 2 * (joined s r - 1))
 
-pub facts : (s r b m l : ℕ) → (r ≤ 2 * s) × (m < 2 ^ b) × (l < 2 ^ b) × (2 ^ b ≤ 2 * s) × (b ≤ 22) × (s < 2 ^ 32) → Facts s r b m l
-facts s r b m l (R, M, L, S, b22, s32) =
-    let t = dividend r b m in
-    let x = digits s r b m in
-    let w = joined s r b m in
-    let y = have s r b m l in
-    let B22 : 2 ^ b ≤ 2 ^ 22 = pow-mono b22 in
-    let r33 : r ≤ 2 ^ 33 = omega arith in
-    let r-small : r * 2 ^ b ≤ 2 ^ 55 = mul-le-mul r33 B22 in
-    let s-small : s * 2 ^ b ≤ 2 ^ 54 = mul-le-mul (le-of-lt s32) B22 in
-    let t-is : t ≡ r * 2 ^ b + m = ap (λ (y : ℕ). y + m) (mod-eq-of-lt (omega arith)) in
-    let x-small : x ≤ 2 ^ 22 = le-trans (x-le s r (2 ^ b) m l t t-is R M L S) B22 in
-    let have-small : t % (2 * s) * 2 ^ b + l < 2 * (s * 2 ^ b) = have-lt s r (2 ^ b) m l t t-is R M L S in
-    let w-is : w ≡ s * 2 ^ b + x = ap (λ (y : ℕ). y + x) (mod-eq-of-lt (omega arith)) in
-    let y-is : y ≡ t % (2 * s) * 2 ^ b + l = ap (λ (y : ℕ). y + l) (mod-eq-of-lt (omega arith)) in
+pub facts : (s r : ℕ) → (r ≤ 2 * s) × (2 ^ 22 ≤ 2 * s) × (s < 2 ^ 32) → Facts s r
+facts s r (R, S, s32) =
+    let t = dividend r in
+    let x = digits s r in
+    let w = joined s r in
+    let y = have s r in
+    let P : 0 < 2 ^ 22 = pow-pos 22 in
+    let t-is : t ≡ r * 2 ^ 22 = mod-eq-of-lt (omega arith) in
+    let x-small : x ≤ 2 ^ 22 = x-le s r (2 ^ 22) t t-is R S P in
+    let have-small : t % (2 * s) * 2 ^ 22 < 2 * (s * 2 ^ 22) = have-lt s r (2 ^ 22) t t-is R S P in
+    let w-is : w ≡ s * 2 ^ 22 + x = ap (λ (y : ℕ). y + x) (mod-eq-of-lt (omega arith)) in
+    let y-is : y ≡ t % (2 * s) * 2 ^ 22 = mod-eq-of-lt (omega arith) in
     record {
-      t-small = omega arith;
       w-small = omega arith;
       y-small = omega arith;
       square-small = mul-le-mul x-small x-small;
-      taken = λ h. let z = fits-square s r (2 ^ b) m l t t-is R M L S w y w-is y-is h in (four-is (w * w + (y - x * x)) (z .0), z .1);
-      left = λ h. let z = one-less s r (2 ^ b) m l t t-is R M L S w y w-is y-is h in (z .0, z .1, four-is ((w - 1) * (w - 1) + (y + 2 * w - 1 - x * x)) (z .2), z .3);
+      taken = λ h. fits-square s r (2 ^ 22) t t-is R S P w y w-is y-is h;
+      left = λ h. one-less s r (2 ^ 22) t t-is R S P w y w-is y-is h;
     }
-  where
-    four-is : (z : ℕ) → z ≡ (s * s + r) * (2 ^ b * 2 ^ b) + m * 2 ^ b + l → z ≡ (s * s + r) * 4 ^ b + m * 2 ^ b + l
-    four-is z e = e ∙ ap (λ (y : ℕ). (s * s + r) * y + m * 2 ^ b + l) (sym (four b))
 
 -- ---- how long a root is
 pub root-range : (s r H j : ℕ) → s * s + r ≡ H → r ≤ 2 * s → 2 ^ j * 2 ^ j ≤ H → H < 2 ^ 64 → (2 ^ j ≤ s) × (s < 2 ^ 32)

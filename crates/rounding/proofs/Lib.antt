@@ -1,5 +1,6 @@
 pub mod NanTest
-pub mod Whole
+pub mod Cubic
+pub mod Newton
 pub mod Half
 pub mod Place
 pub mod Rooting
@@ -15,6 +16,8 @@ pub mod Magnitude
 pub mod Unique
 pub mod Threshold
 pub mod Floats
+pub mod Monotone
+pub mod RootMax
 pub mod Theorems
 pub mod TotalOrder
 pub mod BitPatterns

@@ -7,9 +7,10 @@ use lib.Ieee.{fin, binary32, low, up, down}
 use lib.Ieee.Fits.{down-pos, round-fits}
 use Rattle.rounding.specs.Root.{root}
 use Rattle.rounding.specs.Narrow.{narrowed}
-use Rattle.rounding.specs.Ieee754.{RootRounded, RootRoundedFloat, NarrowRounded, NarrowRoundedFloat, RoundedUnique, RoundedFloatUnique}
+use Rattle.rounding.specs.Ieee754.{RootRounded, RootRoundedFloat, RootMonotone, NarrowRounded, NarrowRoundedFloat, RoundedUnique, RoundedFloatUnique}
 use Rattle.rounding.proofs.Outer.{root-fits}
 use Rattle.rounding.proofs.Rounding.{rootOf-rounded, squares-rise, squares-back, round-rounded, multiples-rise, multiples-back}
+use Rattle.rounding.proofs.Monotone.{root-rises}
 use Rattle.rounding.proofs.Unique.{one-rounded}
 use Rattle.rounding.proofs.Floats.{known-float, one-float}
 
@@ -27,6 +28,9 @@ narrow-rounded s m e = round-rounded binary32 s (m * up e) (down e) (down-pos e)
 pub root-rounded-float : RootRoundedFloat
 root-rounded-float f m e =
     known-float (4 * (suc m * up e * 4 ^ low f)) (λ t. t * t * down e) (none (down e) (4 * (suc m * up e * 4 ^ low f))) (squares-rise (down e)) (squares-back (down e) (down-pos e)) f false (root f (fin false (suc m) e)) (root-fits f m e .0) (root-rounded f m e)
+
+pub root-monotone : RootMonotone
+root-monotone f x y n h = root-rises f x y n h
 
 pub narrow-rounded-float : NarrowRoundedFloat
 unfolding narrowed

@@ -1,9 +1,9 @@
--- A number is nearest to two numbers of units only where they are the same, so that `Rounded` holds of one float only. Assumes nothing.
+-- A larger number is not nearest to a smaller number of units, and so a number is nearest to one only: `Rounded` holds of one float only. Assumes nothing.
 use mathlib.Core.Path.{_≡_, sym, ap, _∙_, subst}
 use mathlib.Core.Logic.{inl, inr}
 use mathlib.Core.Bool.{Bool, true, false, not}
 use Prim.Native.Nat.{ℕ, suc, _+_, _-_, _*_, _/_, _%_, _^_, _≤_, _<_}
-use native.Mathlib.Nat.{le-of-eq, le-antisymm, lt-of-le-of-lt, mul-lt-mul-of-pos-right, mul-div-cancel, suc-mul, lt-suc-self, add-comm}
+use native.Mathlib.Nat.{le-of-eq, le-antisymm, le-of-suc-le-suc, lt-of-le-of-lt, lt-of-not-le, mul-lt-mul-of-pos-right, mul-div-cancel, suc-mul, lt-suc-self, add-comm}
 use native.Mathlib.Omega.{arith}
 use lib.Dec.{T, ltb, ltb→lt, nltb→le}
 use lib.Pow.{pow-pos}
@@ -25,22 +25,25 @@ pub record Among (p B : ℕ) (Under Over : ℕ → Type 0) (g : ℕ) : Type 0 wh
   pub smaller : (a : ℕ) → Holds p a → a < g → Under (a + g)
   pub even : (a : ℕ) → Holds p a → a < B → (a ≡ g → ⊥) → Under (a + g) → Over (a + g) → lastDigit p g ≡ 0
 
-module _ (p B : ℕ) (P : 2 ≤ p) (Under Over : ℕ → Type 0) (apart : (s t : ℕ) → Under t → Over s → t ≤ s) where
-  -- two numbers with the same y nearest to both would be neighbours, and not both even
-  never : (g h : ℕ) → Among p B Under Over g → Among p B Under Over h → g < h → ⊥
+-- y is at most y', so that what lies under y lies under y', and what lies over y' lies over y
+module _ (p B : ℕ) (P : 2 ≤ p) (Under Over Under' Over' : ℕ → Type 0)
+    (rise : (t : ℕ) → Under t → Under' t) (fall : (t : ℕ) → Over' t → Over t) (apart : (s t : ℕ) → Under' t → Over' s → t ≤ s) where
+  -- were y nearest to a number past that of y', the two would be neighbours, and not both even
+  never : (g h : ℕ) → Among p B Under' Over' g → Among p B Under Over h → g < h → ⊥
   never g h G H l =
       let k = size g - p in
       let q = g / 2 ^ k in
       let e : q * 2 ^ k ≡ g = leading p g P (G .held) in
       let u : Under (g + h) = H .smaller g (G .held) l in
-      let o : Over (g + h) = G .larger h (H .held) (H .within) l in
-      let z : q % 2 ≡ 0 = G .even h (H .held) (H .within) (λ i. omega arith) (subst Under (add-comm g h) u) (subst Over (add-comm g h) o) in
-      let y : lastDigit p h ≡ 0 = H .even g (G .held) (G .within) (λ i. omega arith) u o in
+      let o : Over' (g + h) = G .larger h (H .held) (H .within) l in
+      let z : q % 2 ≡ 0 = G .even h (H .held) (H .within) (λ i. omega arith) (subst Under' (add-comm g h) (rise (g + h) u)) (subst Over' (add-comm g h) o) in
+      let y : lastDigit p h ≡ 0 = H .even g (G .held) (G .within) (λ i. omega arith) u (fall (g + h) o) in
       let c : q < 2 ^ p = kept-lt p g in
       let F : Full p q k = full-of p g P in
       let up : suc q * 2 ^ k ≤ h = gap-up p h q k P (H .held) F (omega arith) in
       let n : suc q * 2 ^ k ≡ q * 2 ^ k + 2 ^ k = suc-mul q (2 ^ k) in
-      let down : h ≤ suc q * 2 ^ k = omega (arith, apart (g + suc q * 2 ^ k) (g + h) u (G .larger (suc q * 2 ^ k) (holds p (suc q) k P c) (lt-of-le-of-lt up (H .within)) (omega (arith, pow-pos k)))) in
+      let next : Over' (g + suc q * 2 ^ k) = G .larger (suc q * 2 ^ k) (holds p (suc q) k P c) (lt-of-le-of-lt up (H .within)) (omega (arith, pow-pos k)) in
+      let down : h ≤ suc q * 2 ^ k = omega (arith, apart (g + suc q * 2 ^ k) (g + h) (rise (g + h) u) next) in
       let i : h ≡ suc q * 2 ^ k = le-antisymm down up in
       let b : suc q < 2 ^ p = less p q P c z in
       let d : size h - p ≡ k = dropped p h (suc q) k P (le-of-eq (sym i)) (lt-of-le-of-lt (le-of-eq i) (mul-lt-mul-of-pos-right (lt-suc-self (suc q)) (pow-pos k))) b (more F) in
@@ -57,20 +60,34 @@ module _ (p B : ℕ) (P : 2 ≤ p) (Under Over : ℕ → Type 0) (apart : (s t :
       less : (p q : ℕ) → 2 ≤ p → q < 2 ^ p → q % 2 ≡ 0 → suc q < 2 ^ p
       less p q P c z = let h : 2 ^ p ≡ 2 * 2 ^ (p - 1) = half-pow p P in omega arith
 
-  pub among-unique : (g h : ℕ) → Among p B Under Over g → Among p B Under Over h → g ≡ h
-  among-unique g h G H = go (ltb g h) (ltb h g) (ltb→lt g h) (ltb→lt h g) (nltb→le g h) (nltb→le h g)
-    where
-      go : (a b : Bool) → (T a → g < h) → (T b → h < g) → (T (not a) → h ≤ g) → (T (not b) → g ≤ h) → g ≡ h
-      go true b x y u v = absurd (never g h G H (x tt))
-      go false true x y u v = absurd (never h g H G (y tt))
-      go false false x y u v = le-antisymm (v tt) (u tt)
+  among-rises : (h g : ℕ) → Among p B Under Over h → Among p B Under' Over' g → h ≤ g
+  among-rises h g H G = le-of-suc-le-suc (lt-of-not-le (λ (l : suc g ≤ h). never g h G H l))
+
+pub among-unique : (p B : ℕ) → 2 ≤ p → (Under Over : ℕ → Type 0) → ((s t : ℕ) → Under t → Over s → t ≤ s)
+    → (g h : ℕ) → Among p B Under Over g → Among p B Under Over h → g ≡ h
+among-unique p B P Under Over apart g h G H = le-antisymm (rises g h G H) (rises h g H G)
+  where
+    rises : (g h : ℕ) → Among p B Under Over g → Among p B Under Over h → g ≤ h
+    rises = among-rises p B P Under Over Under Over (λ t u. u) (λ t o. o) apart
 
 -- without a bound
 pub of-nearest : (p B : ℕ) (Under Over : ℕ → Type 0) (g : ℕ) → g < B → Nearest p Under Over g → Among p B Under Over g
 of-nearest p B Under Over g h N = record { held = N .held; within = h; larger = λ a H b l. N .larger a H l; smaller = N .smaller; even = λ a H b n u o. N .even a H n u o }
 
-pub nearest-unique : (p : ℕ) → 2 ≤ p → (Under Over : ℕ → Type 0) → ((s t : ℕ) → Under t → Over s → t ≤ s) → (g h : ℕ) → Nearest p Under Over g → Nearest p Under Over h → g ≡ h
-nearest-unique p P Under Over apart g h G H = among-unique p (suc (g + h)) P Under Over apart g h (of-nearest p (suc (g + h)) Under Over g (omega arith) G) (of-nearest p (suc (g + h)) Under Over h (omega arith) H)
+pub nearest-rises : (p : ℕ) → 2 ≤ p → (Under Over Under' Over' : ℕ → Type 0)
+    → ((t : ℕ) → Under t → Under' t) → ((t : ℕ) → Over' t → Over t) → ((s t : ℕ) → Under' t → Over' s → t ≤ s)
+    → (h g : ℕ) → Nearest p Under Over h → Nearest p Under' Over' g → h ≤ g
+nearest-rises p P Under Over Under' Over' rise fall apart h g H G =
+    among-rises p (suc (g + h)) P Under Over Under' Over' rise fall apart h g
+    (of-nearest p (suc (g + h)) Under Over h (omega arith) H)
+    (of-nearest p (suc (g + h)) Under' Over' g (omega arith) G)
+
+pub nearest-unique : (p : ℕ) → 2 ≤ p → (Under Over : ℕ → Type 0) → ((s t : ℕ) → Under t → Over s → t ≤ s)
+    → (g h : ℕ) → Nearest p Under Over g → Nearest p Under Over h → g ≡ h
+nearest-unique p P Under Over apart g h G H = le-antisymm (rises g h G H) (rises h g H G)
+  where
+    rises : (g h : ℕ) → Nearest p Under Over g → Nearest p Under Over h → g ≤ h
+    rises = nearest-rises p P Under Over Under Over (λ t u. u) (λ t o. o) apart
 
 -- ---- one float only
 pub one-rounded : (f : Format) (Under Over : ℕ → Type 0) → ((s t : ℕ) → Under t → Over s → t ≤ s) → (s : Bool) (r v : Float) → T (fits f r) → T (fits f v) → Rounded f Under Over s r → Rounded f Under Over s v → r ≡ v

@@ -2,11 +2,11 @@
 -- `RootedUnder` and `RootedOver` say how the root of m * 2 ^ e, in units of f, compares with halves of a unit, and `ExactUnder` and `ExactOver` how
 -- m * 2 ^ e itself does (`Under`, `Over` of Rounded.antt). Assumes nothing.
 use mathlib.Core.Path.{_≡_}
-use mathlib.Core.Bool.{Bool, false}
+use mathlib.Core.Bool.{Bool, true, false}
 use Prim.Native.Nat.{ℕ, suc, _*_, _^_, _≤_}
 use lib.Dec.{T}
 use lib.IntN.{ℤ}
-use lib.Ieee.{Float, fin, Format, binary32, low, up, down, fits}
+use lib.Ieee.{Float, fin, Format, binary32, low, up, down, fits, lt, le, ofBits}
 use Rattle.rounding.specs.Root.{root}
 use Rattle.rounding.specs.Narrow.{narrowed}
 use Rattle.rounding.specs.Rounded.{Rounded, RoundedFloat, FractionUnder, FractionOver, RootUnder, RootOver}
@@ -29,6 +29,10 @@ RootRounded = (f : Format) (m : ℕ) (e : ℤ) → Rounded f (RootedUnder f (suc
 
 abbrev pub RootRoundedFloat : Type 0
 RootRoundedFloat = (f : Format) (m : ℕ) (e : ℤ) → RoundedFloat f (RootedUnder f (suc m) e) (RootedOver f (suc m) e) false (root f (fin false (suc m) e))
+
+-- A larger number has no smaller root: the root keeps the order of the numbers that are not below zero.
+abbrev pub RootMonotone : Type 0
+RootMonotone = (f : Format) (x y : Float) → lt x (ofBits f 0) ≡ false → le x y ≡ true → le (root f x) (root f y) ≡ true
 
 -- Narrowing rounds any finite number to nearest, ties to even, in f32.
 abbrev pub NarrowRounded : Type 0

@@ -193,9 +193,15 @@ pub(crate) fn even() {
 }
 
 pub(crate) fn few() {
+    few_spots();
+    few_matches();
+    few_directions();
+    rounds(b"64 rounds", 64);
+    rounds(b"65 rounds", 65);
+}
+
+fn few_spots() {
     let spots = [0.0f64; 8194];
-    let matches = [0usize; 8194];
-    let directions = [0.0f32; 196611];
     number(
         b"4096 spots, then 7",
         tried(&spots[0..8192], &[], &[], identity(), spoiled()),
@@ -204,6 +210,10 @@ pub(crate) fn few() {
         b"4097 spots",
         tried(&spots[0..8194], &[], &[], identity(), spoiled()),
     );
+}
+
+fn few_matches() {
+    let matches = [0usize; 8194];
     number(
         b"4096 matches, then 7",
         tried(&[], &matches[0..8192], &[], identity(), spoiled()),
@@ -212,6 +222,10 @@ pub(crate) fn few() {
         b"4097 matches",
         tried(&[], &matches[0..8194], &[], identity(), spoiled()),
     );
+}
+
+fn few_directions() {
+    let directions = [0.0f32; 196611];
     number(
         b"65536 directions, then 7",
         tried(&[], &[], &directions[0..196608], identity(), spoiled()),
@@ -220,8 +234,6 @@ pub(crate) fn few() {
         b"65537 directions",
         tried(&[], &[], &directions[0..196611], identity(), spoiled()),
     );
-    rounds(b"64 rounds", 64);
-    rounds(b"65 rounds", 65);
 }
 
 fn rounds(name: &[u8], n: usize) {
