@@ -26,9 +26,10 @@ use Rattle.fit.specs.declared.Clip.the-variants.{Kept, Unchanged}
 use Rattle.entry.specs.Arguments.{Call}
 use Rattle.entry.specs.Check.{refusal}
 use Rattle.entry.specs.Fixed.{Fixed, fixed}
-use Rattle.wcs_refine.specs.Fit.{fitPasses, moved, sound, still, Statistics, none, some, statistics, clipped, taken}
+use Rattle.passes.specs.Fit.{fitPasses, moved, sound, still}
+use Rattle.wcs_refine.specs.Clip.{Statistics, none, some, statistics, clipped, taken}
 use Rattle.wcs_refine.specs.Associate.{adaptivePx}
-use Rattle.wcs_refine.specs.Query.{Cache, empty, full, axis32, leastCos, scanned, drifted, Prediction, predictions, pruned}
+use Rattle.query.specs.Query.{Cache, empty, full, axis32, leastCos, scanned, drifted, Prediction, predictions, pruned}
 use Rattle.wcs_refine.specs.Round.{State, Next, go, done, refuse, associated, Run, Ending, refused, ended, loop, round}
 use Rattle.wcs_refine.specs.Closing.{fine, cleaned, sumSquares, rootMean}
 use Rattle.wcs_refine.specs.Call.{Outcome, no, ok, start, left, outcome}

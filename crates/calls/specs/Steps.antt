@@ -24,9 +24,10 @@ use Rattle.solve.specs.declared.Solution.the-variants.{Solved, Failed}
 use Rattle.entry.specs.Arguments.{Call}
 use Rattle.entry.specs.Check.{refusal}
 use Rattle.entry.specs.Fixed.{Fixed, fixed, startPose}
-use Rattle.wcs_refine.specs.Fit.{Passes, fitPasses, passed, goesOn, moved, sound, still, Statistics, some, statistics, clipped, taken}
+use Rattle.passes.specs.Fit.{Passes, fitPasses, passed, goesOn, moved, sound, still}
+use Rattle.wcs_refine.specs.Clip.{Statistics, some, statistics, clipped, taken}
 use Rattle.wcs_refine.specs.Associate.{adaptivePx}
-use Rattle.wcs_refine.specs.Query.{Cache, empty, full, query, axis32, leastCos, scanned, drifted, Prediction, predictions, pruned}
+use Rattle.query.specs.Query.{Cache, empty, full, query, axis32, leastCos, scanned, drifted, Prediction, predictions, pruned}
 use Rattle.wcs_refine.specs.Round.{State, Next, go, done, refuse, Found, Round, associated, fresh, reused, searched, rest, fitted, round}
 use Rattle.wcs_refine.specs.Round.{Ending, refused, ended, Run, carry, loop}
 use Rattle.wcs_refine.specs.Closing.{Closed, fine, ifSound, refitted, recleaned, cleanedBy, cleaned, sumSquares, rootMean, Report, reported}

@@ -18,7 +18,7 @@ use Rattle.matching.specs.Greedy.{Outcome, assigned, flat, cleared, clea
 use Rattle.matching.specs.Greedy.{stripRoom, greedyByStrips}
 use Rattle.matching.specs.Ordered.{All}
 use Rattle.matching.specs.Strips.{Gathered}
-use Rattle.matching.specs.Layout.{Inside, nothing, laid, Beyond, found, pushed, taking, Taking, offers, outcome}
+use Rattle.matching.specs.Layout.{Inside, nothing, laid, Beyond, found, pushed, taking, Taking, offers, outcome, concluded}
 use Rattle.matching.proofs.Runs.{below-or}
 use Rattle.matching.proofs.Laying.{laid-get, laid-long, later}
 use Rattle.matching.proofs.Pushing.{Filled, Overfull, pushed-fits, pushed-over, candidates-inside}
@@ -114,44 +114,47 @@ module _ (points : List Float) (limit : ℕ) (predicted : List Float) (r2 : Floa
   unfolding greedyUniqueMatches
   too-short h = rw (lt-ltb _ _ h)
 
-  module _ (room : np + nq + 2 * min np nq ≤ length w) (r : ℕ) (d' : List Float) (ix' : List ℕ)
-      (did : Gathered np (capacity d ix) r2 points predicted d ix d' ix' r) where
-    -- what was gathered is as long as all pairs, found in their order
-    as-many : length (did .list) ≡ length (pairsFrom r2 points predicted 0 np)
-    as-many = same-length (did .list) (pairsFrom r2 points predicted 0 np) (did .same)
-
-    pub too-many : capacity d ix < r
-        → outcome TooMany (cleared (capacity d ix) d') (clearedN (2 * capacity d ix) ix') w ≡ greedyUniqueMatches points limit predicted r2 d ix w
-    unfolding greedyUniqueMatches pairs overfull
-    too-many h =
-        let f = too-full (capacity d ix) (did .list) d ix (omega arith) (omega arith) r d' ix' (did .pushed) h in
-        rw (le-ltb (length w) _ room, ← as-many, lt-ltb (capacity d ix) _ (f .0))
-        (same-outcome refl
-        (ap (λ (l : List Float). replicate (capacity d ix) zero64 ++ l) (f .1 .distances))
-        (ap (λ (l : List ℕ). replicate (2 * capacity d ix) 0 ++ l) (f .1 .indices))
-        refl)
-
-    -- where all pairs fit, they are what `settle` is given
+  module _ (r : ℕ) (d' : List Float) (ix' : List ℕ) (did : Gathered np (capacity d ix) r2 points predicted d ix d' ix' r) where
+    -- where all pairs fit, they are what is ordered and assigned
     pub given : r ≤ capacity d ix → All (Inside np nq) (take r (laid d' ix'))
     given h =
         let f = all-there (capacity d ix) (did .list) d ix (omega arith) (omega arith) r d' ix' (did .pushed) h in
         rw (f .1) (candidates-inside np r2 points predicted (did .list) (did .made))
 
-    pub all-fit : r ≤ capacity d ix
-        → placed (np + nq) r (assigned [] (merged notAfter (take r (laid d' ix')))) d' ix' w ≡ greedyUniqueMatches points limit predicted r2 d ix w
-    unfolding greedyUniqueMatches pairs matchesOf placed
-    all-fit h =
-        let f = all-there (capacity d ix) (did .list) d ix (omega arith) (omega arith) r d' ix' (did .pushed) h in
-        let b = later (2 * r) (omega arith) (f .3) in
-        let e : 2 * (2 * r) ≡ 4 * r = omega arith in
-        let count = f .2 ∙ as-many in
-        let order = ap (merged notAfter) (f .1) ∙ merged-rearranged np points predicted r2 (did .list) (did .made) (did .same) in
-        ap (λ (l : List Pair). placed (np + nq) r (assigned [] l) d' ix' w) order
-        ∙ rw (le-ltb (length w) _ room, le-ltb (capacity d ix) (length (pairsFrom r2 points predicted 0 np)) (omega arith), ← count)
-        (same-outcome refl
-        (ap (λ (l : List Float). replicate (2 * r) zero64 ++ l) (b .distances))
-        (ap (λ (l : List ℕ). replicate (4 * r) 0 ++ l) (rw e at (b .indices)))
-        refl)
+    -- what was gathered is as long as all pairs, found in their order
+    as-many : length (did .list) ≡ length (pairsFrom r2 points predicted 0 np)
+    as-many = same-length (did .list) (pairsFrom r2 points predicted 0 np) (did .same)
+
+    module _ (room : np + nq + 2 * min np nq ≤ length w) where
+      too-many : capacity d ix < r → concluded np nq (capacity d ix) r d' ix' w ≡ greedyUniqueMatches points limit predicted r2 d ix w
+      unfolding concluded greedyUniqueMatches pairs overfull
+      too-many h =
+          let f = too-full (capacity d ix) (did .list) d ix (omega arith) (omega arith) r d' ix' (did .pushed) h in
+          rw (lt-ltb (capacity d ix) r h, le-ltb (length w) _ room, ← as-many, lt-ltb (capacity d ix) _ (f .0))
+          (same-outcome refl
+          (ap (λ (l : List Float). replicate (capacity d ix) zero64 ++ l) (f .1 .distances))
+          (ap (λ (l : List ℕ). replicate (2 * capacity d ix) 0 ++ l) (f .1 .indices))
+          refl)
+
+      all-fit : r ≤ capacity d ix → concluded np nq (capacity d ix) r d' ix' w ≡ greedyUniqueMatches points limit predicted r2 d ix w
+      unfolding concluded greedyUniqueMatches pairs matchesOf placed
+      all-fit h =
+          let f = all-there (capacity d ix) (did .list) d ix (omega arith) (omega arith) r d' ix' (did .pushed) h in
+          let b = later (2 * r) (omega arith) (f .3) in
+          let e : 2 * (2 * r) ≡ 4 * r = omega arith in
+          let count = f .2 ∙ as-many in
+          let order = ap (merged notAfter) (f .1) ∙ merged-rearranged np points predicted r2 (did .list) (did .made) (did .same) in
+          rw (le-ltb (capacity d ix) r h)
+          (ap (λ (l : List Pair). placed (np + nq) r (assigned [] l) d' ix' w) order
+          ∙ rw (le-ltb (length w) _ room, le-ltb (capacity d ix) (length (pairsFrom r2 points predicted 0 np)) (omega arith), ← count)
+          (same-outcome refl
+          (ap (λ (l : List Float). replicate (2 * r) zero64 ++ l) (b .distances))
+          (ap (λ (l : List ℕ). replicate (4 * r) 0 ++ l) (rw e at (b .indices)))
+          refl))
+
+      -- the pairs that were gathered, in whatever order, give what the definition says
+      pub concluded-whole : concluded np nq (capacity d ix) r d' ix' w ≡ greedyUniqueMatches points limit predicted r2 d ix w
+      concluded-whole = ⊎-elim too-many all-fit (below-or (capacity d ix) r)
 
 -- ---- the whole call with room for strips
 
@@ -190,24 +193,18 @@ module _ (points : List Float) (limit : ℕ) (predicted : List Float) (r2 : Floa
 
     module _ (r : ℕ) (d' : List Float) (ix' w' : List ℕ)
         (did : Gathered (spotsWithin points limit) (capacity d ix) r2 points predicted d ix d' ix' r) (same : drop front w' ≡ drop front w) where
-      pub too-many-by-strips : capacity d ix < r
-          → outcome TooMany (cleared (capacity d ix) d') (clearedN (2 * capacity d ix) ix') (clearedN front w') ≡ greedyByStrips points limit predicted r2 d ix w
-      too-many-by-strips h =
-          rw same (behind-front TooMany _ _ (drop front w) (too-many points limit predicted r2 d ix (drop front w) enough-behind r d' ix' did h))
+      -- the places behind the front, as they are lent
+      abbrev lent : List ℕ
+      lent = take (length w - front) (drop front (clearedN front w'))
 
-      pub enough-lent : needed points limit predicted ≤ length (take (length w - front) (drop front (clearedN front w')))
+      pub enough-lent : needed points limit predicted ≤ length lent
       enough-lent = rw (lent-rest front w w' same) enough-behind
 
-      pub given-by-strips : r ≤ capacity d ix → All (Inside (spotsWithin points limit) (length predicted / 2)) (take r (laid d' ix'))
-      given-by-strips h = given points limit predicted r2 d ix (drop front w) enough-behind r d' ix' did h
-
-      pub all-fit-by-strips : (t : ℕ) (e : List Float) (jx v : List ℕ) → r ≤ capacity d ix
-          → outcome (Matches t) e jx v
-          ≡ placed (marks points limit predicted) r (assigned [] (merged notAfter (take r (laid d' ix')))) d' ix'
-          (take (length w - front) (drop front (clearedN front w')))
-          → outcome (Matches t) e jx (take front (clearedN front w') ++ (v ++ drop (length w - front) (drop front (clearedN front w'))))
+      pub concluded-by-strips : (a : Matched) (e : List Float) (jx v : List ℕ)
+          → outcome a e jx v ≡ concluded (spotsWithin points limit) (length predicted / 2) (capacity d ix) r d' ix' lent
+          → outcome a e jx (take front (clearedN front w') ++ (v ++ drop (length w - front) (drop front (clearedN front w'))))
           ≡ greedyByStrips points limit predicted r2 d ix w
-      all-fit-by-strips t e jx v h settled =
+      concluded-by-strips a e jx v done =
           rw (rest-back front w w' same v)
-          (behind-front (Matches t) e jx v
-          (settled ∙ rw (lent-rest front w w' same) (all-fit points limit predicted r2 d ix (drop front w) enough-behind r d' ix' did h)))
+          (behind-front a e jx v
+          (done ∙ rw (lent-rest front w w' same) (concluded-whole points limit predicted r2 d ix (drop front w) r d' ix' did enough-behind)))

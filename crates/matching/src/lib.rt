@@ -6,7 +6,8 @@ ghost use lib.ListN.{length, take};
 ghost use Rattle.matching.specs.Merge.{notAfter, merged};
 ghost use Rattle.matching.specs.Greedy.{Outcome, assigned, placed, greedyUniqueMatches, greedyByStrips};
 ghost use Rattle.matching.specs.Ordered.{All};
-ghost use Rattle.matching.specs.Layout.{Inside, laid, outcome};
+ghost use Rattle.matching.specs.Pairs.{spotsWithin};
+ghost use Rattle.matching.specs.Layout.{Inside, laid, outcome, concluded};
 
 mod assign;
 mod lists;
@@ -47,6 +48,34 @@ fn settle(
     t
 }
 
+// The spots that are looked at: the first `max_points` of them.
+fn spots_within(points: &[f64], max_points: usize) -> usize
+    ensures { λ r. ⌜ r ≡ spotsWithin (now (points .entry)) «max_points» ⌝ }
+{
+    lists::smaller(points.len() / 2, max_points)
+}
+
+// What is answered once m pairs were found, and `cap` of them stand in the candidate lists at the most.
+fn concluded(
+    np: usize,
+    nq: usize,
+    cap: usize,
+    m: usize,
+    distances: &mut [f64],
+    indices: &mut [usize],
+    work: &mut [usize],
+) -> Matched
+    requires { ⌜ (2 * cap ≤ length (now distances)) × (4 * cap ≤ length (now indices)) × (np + nq + 2 * min np nq ≤ length (now work)) × (m ≤ cap → All (Inside np nq) (take m (laid (now distances) (now indices)))) ⌝ }
+    ensures { λ r. ⌜ outcome r (now (distances .exit)) (now (indices .exit)) (now (work .exit)) ≡ concluded np nq cap m (now (distances .entry)) (now (indices .entry)) (now (work .entry)) ⌝ }
+{
+    if cap < m {
+        lists::clear_floats(distances, cap);
+        lists::clear_numbers(indices, 2 * cap);
+        return Matched::TooMany;
+    }
+    Matched::Matches(settle(np, nq, m, distances, indices, work))
+}
+
 // Matches the spots, the first `max_points` of them, with the predictions: pairs within the radius are taken nearest first,
 // each spot and each prediction once. Points are flat, x then y. `distances` and `indices` are room for the pairs; `work`
 // has room for a mark of each spot and prediction, and then the matches, spot and prediction.
@@ -61,19 +90,14 @@ pub fn greedy_unique_matches(
 ) -> Matched
     ensures { λ r. ⌜ _≡_ {A = Outcome} (record { answer = r; distances = now (distances .exit); indices = now (indices .exit); work = now (work .exit) }) (greedyUniqueMatches (now (points .entry)) «max_points» (now (predicted .entry)) «radius_sq» (now (distances .entry)) (now (indices .entry)) (now (work .entry))) ⌝ }
 {
-    let np = lists::smaller(points.len() / 2, max_points);
+    let np = spots_within(points, max_points);
     let nq = predicted.len() / 2;
     if work.len() < np + nq + 2 * lists::smaller(np, nq) {
         return Matched::Short;
     }
     let cap = lists::smaller(distances.len() / 2, indices.len() / 4);
     let m = pairs::collect(points, np, predicted, radius_sq, distances, indices, cap);
-    if cap < m {
-        lists::clear_floats(distances, cap);
-        lists::clear_numbers(indices, 2 * cap);
-        return Matched::TooMany;
-    }
-    Matched::Matches(settle(np, nq, m, distances, indices, work))
+    concluded(np, nq, cap, m, distances, indices, work)
 }
 
 // The same matches, found more quickly: `work` has room in front of the marks, two places for each spot, where the spots are sorted into strips, so
@@ -89,7 +113,7 @@ pub fn greedy_unique_matches_by_strips(
 ) -> Matched
     ensures { λ r. ⌜ _≡_ {A = Outcome} (record { answer = r; distances = now (distances .exit); indices = now (indices .exit); work = now (work .exit) }) (greedyByStrips (now (points .entry)) «max_points» (now (predicted .entry)) «radius_sq» (now (distances .entry)) (now (indices .entry)) (now (work .entry))) ⌝ }
 {
-    let np = lists::smaller(points.len() / 2, max_points);
+    let np = spots_within(points, max_points);
     let nq = predicted.len() / 2;
     let room = 2 * np;
     let end = work.len();
@@ -108,10 +132,5 @@ pub fn greedy_unique_matches_by_strips(
         work,
     );
     lists::clear_numbers(work, room);
-    if cap < m {
-        lists::clear_floats(distances, cap);
-        lists::clear_numbers(indices, 2 * cap);
-        return Matched::TooMany;
-    }
-    Matched::Matches(settle(np, nq, m, distances, indices, &mut work[room..end]))
+    concluded(np, nq, cap, m, distances, indices, &mut work[room..end])
 }

@@ -15,14 +15,14 @@ use Rattle.matching.specs.Greedy.{Match, flat, matchesOf, capacity}
 use Rattle.fit.specs.declared.Pose.{Pose}
 use Rattle.entry.specs.declared.Settings.{Settings}
 use Rattle.entry.specs.Entry.{fixedOf}
-use Rattle.wcs_refine.specs.Query.{Cache, Prediction}
+use Rattle.query.specs.Query.{Cache, Prediction}
 use Rattle.wcs_refine.specs.Associate.{laid, renamed, sameMatches}
 use Rattle.wcs_refine.specs.Listing.{renamedBy}
 use Rattle.wcs_refine.specs.Round.{State, Next, go, done, refuse, settled, associated}
 use Rattle.wcs_refine.specs.Keeping.{cacheOf, heldCache, heldMatches, heldState, withUsed, nextOf, Matchable, Fits, Predicted, AssociatedTo}
 use Rattle.wcs_refine.specs.Comparing.{Kept, Comparable, Compared, NewAt, FoundTo}
 use Rattle.wcs_refine.specs.declared.associating.Tally.{Tally}
-use Rattle.wcs_refine.specs.declared.keeping.Held.{Held}
+use Rattle.query.specs.declared.Held.{Held}
 use Rattle.wcs_refine.specs.declared.keeping.Verdict.the-variants.{GoOn, Done, Refused}
 use Rattle.wcs_refine.proofs.Meant.{renamed-is}
 use Rattle.wcs_refine.proofs.NewMatches.{lone-matches, renamed-many}

@@ -17,11 +17,11 @@ use Rattle.entry.specs.Check.{refusal}
 use Rattle.entry.specs.Fixed.{Fixed, fixed, startPose}
 use Rattle.entry.specs.Entry.{fixedOf}
 use Rattle.entry.specs.declared.Settings.{Settings}
-use Rattle.wcs_refine.specs.Query.{Cache, empty}
-use Rattle.wcs_refine.specs.Listing.{fronted}
+use Rattle.query.specs.Query.{Cache, empty}
+use Rattle.query.specs.Listing.{fronted}
 use Rattle.wcs_refine.specs.Round.{State, Ending, refused, ended, Run, loop}
 use Rattle.wcs_refine.specs.Closing.{Closed, unsound, fine, cleaned, Report, reported}
-use Rattle.wcs_refine.specs.Passing.{closedOf, CleanedTo, reportOf}
+use Rattle.wcs_refine.specs.Cleaning.{closedOf, CleanedTo, reportOf}
 use Rattle.wcs_refine.specs.Keeping.{cacheOf, heldState, Ready, Fits, endingOf, RanTo}
 use Rattle.wcs_refine.specs.Call.{Answer, no, ok, start, runOf, closed, finished, answerAfter, answer, cleared, left, outcome}
 use Rattle.wcs_refine.specs.Returned.{refusedWith, accepted, valuesOf, Returned, returned, lists, Answers}
@@ -29,7 +29,7 @@ use Rattle.wcs_refine.specs.Ending.{concluded, resultAfter, Answered}
 use Rattle.wcs_refine.specs.declared.WcsRefineResult.{WcsRefineResult}
 use Rattle.wcs_refine.specs.declared.cleaning.Cleaned.{Cleaned}
 use Rattle.wcs_refine.specs.declared.reporting.Numbers.{Numbers}
-use Rattle.wcs_refine.specs.declared.keeping.Held.{Held}
+use Rattle.query.specs.declared.Held.{Held}
 use Rattle.wcs_refine.specs.declared.rounds.Ran.{Ran}
 use Rattle.wcs_refine.proofs.LoopEnds.{Ends, loop-ends}
 use Rattle.wcs_refine.proofs.CallBounds.{passed, early}

@@ -19,14 +19,15 @@ use Rattle.fit.specs.declared.Clip.the-variants.{Kept, Unchanged}
 use Rattle.solve.specs.declared.Solution.{Solution}
 use Rattle.solve.specs.declared.Solution.the-variants.{Solved, Failed}
 use Rattle.entry.specs.Fixed.{Fixed}
-use Rattle.wcs_refine.specs.Fit.{moved, sound, Statistics, none, some, statistics, taken}
+use Rattle.passes.specs.Fit.{moved, sound}
+use Rattle.wcs_refine.specs.Clip.{Statistics, none, some, statistics, taken}
 use Rattle.wcs_refine.specs.Closing.{Closed, unsound, fine, ifSound, refitted, recleaned, cleanedBy, cleaned}
-use Rattle.wcs_refine.specs.Passing.{statsOf, Statted, clipBy, closingClip, follows}
+use Rattle.wcs_refine.specs.Cleaning.{statsOf, Statted, clipBy, closingClip, follows}
 use Rattle.wcs_refine.specs.declared.cleaning.Refitted.{Refitted}
-use Rattle.wcs_refine.specs.declared.passing.Stats.{Stats}
-use Rattle.wcs_refine.specs.declared.passing.Stats.the-variants.{Of, Missing}
+use Rattle.wcs_refine.specs.declared.clipping.Stats.{Stats}
+use Rattle.wcs_refine.specs.declared.clipping.Stats.the-variants.{Of, Missing}
 use Rattle.wcs_refine.proofs.Along.{either}
-use Rattle.wcs_refine.proofs.PassSteps.{rows-length}
+use Rattle.passes.proofs.PassSteps.{rows-length}
 use Rattle.wcs_refine.proofs.ClipSteps.{clip-fewer, clip-same}
 
 -- ---- the refit

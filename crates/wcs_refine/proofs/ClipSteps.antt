@@ -15,10 +15,10 @@ use Rattle.stats.specs.declared.MedianSigma.{MedianSigma}
 use Rattle.fit.specs.Residual.{inFront, leading, residualMedianSigma, Measured, Clipped, clipped as clippedTo, kept, madClipMatches}
 use Rattle.fit.specs.declared.Clip.{Clip}
 use Rattle.fit.specs.declared.Clip.the-variants.{Kept, Unchanged}
-use Rattle.wcs_refine.specs.Fit.{Statistics, none, some, statistics, taken, clipped}
-use Rattle.wcs_refine.specs.Passing.{statsOf, Statted, ClippedTo}
-use Rattle.wcs_refine.specs.declared.passing.Stats.{Stats}
-use Rattle.wcs_refine.specs.declared.passing.Stats.the-variants.{Of, Missing}
+use Rattle.wcs_refine.specs.Clip.{Statistics, none, some, statistics, taken, clipped}
+use Rattle.wcs_refine.specs.Cleaning.{statsOf, Statted, ClippedTo}
+use Rattle.wcs_refine.specs.declared.clipping.Stats.{Stats}
+use Rattle.wcs_refine.specs.declared.clipping.Stats.the-variants.{Of, Missing}
 
 -- ---- the statistics
 

@@ -6,8 +6,8 @@ use native.Mathlib.Numerals.{add-one}
 use native.Mathlib.Omega.{arith}
 use lib.ListN.{length, getD, set, drop, replicate, drop-of-length-le}
 use lib.Seq.{drop-cons}
-use Rattle.wcs_refine.specs.Listing.{fronted}
-use Rattle.wcs_refine.proofs.Listed.{Writing, onward, front-push, front-whole}
+use Rattle.query.specs.Listing.{fronted}
+use Rattle.query.proofs.Listed.{Writing, onward, front-push, front-whole}
 
 pub filled : {A : Type 0} (v : A) (i : ℕ) (o l : List A) → l ≡ replicate i v ++ drop i o → length o ≤ i → i ≤ length o → l ≡ replicate (length o) v
 filled v i o l e h k =

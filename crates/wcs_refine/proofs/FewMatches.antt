@@ -16,7 +16,7 @@ use Rattle.matching.specs.Ordered.{All, none, more}
 use Rattle.matching.specs.Layout.{Inside}
 use Rattle.matching.proofs.Merging.{all-merged}
 use Rattle.matching.proofs.Pushing.{pairs-inside}
-use Rattle.wcs_refine.specs.Query.{Prediction}
+use Rattle.query.specs.Query.{Prediction}
 use Rattle.wcs_refine.specs.Associate.{renamed}
 
 -- whether a match has a spot

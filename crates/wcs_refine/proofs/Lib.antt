@@ -8,8 +8,6 @@ pub mod Distances
 pub mod Unchanged
 pub mod SameChecks
 pub mod TwoCalls
-pub mod PassSteps
-pub mod Lengths
 pub mod ClipSteps
 pub mod CleanSteps
 pub mod ReportSteps

@@ -15,8 +15,9 @@ use Rattle.fit.specs.Rows.{Row, rows, viewOf}
 use Rattle.fit.specs.Residual.{residuals}
 use Rattle.fit.specs.declared.Pose.{Pose}
 use Rattle.entry.specs.Fixed.{Fixed}
-use Rattle.wcs_refine.specs.Fit.{Passes, fitPasses, statistics, clipped}
-use Rattle.wcs_refine.specs.Query.{Cache, empty, full, query, drifted, Prediction, predictions, pruned}
+use Rattle.passes.specs.Fit.{Passes, fitPasses}
+use Rattle.wcs_refine.specs.Clip.{statistics, clipped}
+use Rattle.query.specs.Query.{Cache, empty, full, query, drifted, Prediction, predictions, pruned}
 use Rattle.wcs_refine.specs.Associate.{adaptivePx, laid, renamed, sameMatches}
 use Rattle.wcs_refine.specs.Round.{State, Next, go, done, refuse, Found, Round, settled, associated, fresh, reused, searched, rest, fitted, round, Ending, refused, ended, Run, carry, loop}
 use Rattle.wcs_refine.proofs.Along.{All, all-++, either}

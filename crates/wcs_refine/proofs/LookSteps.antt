@@ -3,10 +3,10 @@
 use mathlib.Core.Path.{_≡_, refl, sym, ap, subst, _∙_}
 use mathlib.Core.Bool.{Bool, true, false, cond}
 use mathlib.Core.List.{List, [], _∷_, _++_, append-assoc}
-use Prim.Native.Nat.{ℕ, zero, suc, _+_, _-_, _*_, _≤_}
+use Prim.Native.Nat.{ℕ, zero, suc, _+_, _-_, _*_, _/_, _≤_, min}
 use native.Mathlib.Omega.{arith}
 use lib.Ieee.{Float, le}
-use lib.ListN.{length, take, drop, length-append}
+use lib.ListN.{length, take, drop, length-append, length-take, length-drop}
 use lib.Seq.{length-take-le, take-append-le, take-take, take-add, take-at, drop-at, drop-drop, slice, length-slice}
 use borrow.Rule.Slice.PartMut.{take-put, drop-put, same-len-mid}
 use Rattle.project.specs.Camera.{boresight, cameraRows}
@@ -14,18 +14,21 @@ use Rattle.fit.specs.Rows.{directionAt}
 use Rattle.fit.specs.declared.Pose.{Pose}
 use Rattle.entry.specs.declared.Settings.{Settings}
 use Rattle.entry.specs.Entry.{fixedOf}
-use Rattle.entry.specs.Fixed.{Fixed, searchRadius, requeryMargin, requeryCos, thetaMargin, pruneR, keepR}
-use Rattle.wcs_refine.specs.Query.{dot32, axis32, Cache, full, scanned, query, drifted, Prediction, predictions, pruned}
+use Rattle.entry.specs.Fixed.{Fixed, searchRadius, requeryMargin, pruneR, keepR}
+use Rattle.query.specs.Query.{dot32, axis32, Cache, full, scanned, query, drifted, Prediction, predictions, pruned}
 use Rattle.wcs_refine.specs.Associate.{laid}
 use Rattle.wcs_refine.specs.Round.{Found, associated, fresh, reused, searched}
-use Rattle.wcs_refine.specs.Listing.{leastCosOf, driftedFrom, falling, standing, points, idsOf, Fronted, Told}
+use Rattle.query.specs.Listing.{leastCosOf, falling, standing, Fronted}
+use Rattle.wcs_refine.specs.Listing.{points, idsOf, Told}
 use Rattle.wcs_refine.specs.Keeping.{cacheOf, heldCache, heldMatches, Fits, AssociatedTo, LookedTo, SearchedTo}
-use Rattle.wcs_refine.specs.Sighting.{due, afresh, kept, ListedTo, ToldTo, PrunedTo}
-use Rattle.wcs_refine.specs.declared.keeping.Held.{Held}
+use Rattle.query.specs.Sighting.{due, afresh, kept}
+use Rattle.wcs_refine.specs.Sighting.{ListedTo, ToldTo, PrunedTo}
+use Rattle.query.specs.declared.Held.{Held}
 use Rattle.wcs_refine.specs.declared.associating.Step.{Step}
-use Rattle.wcs_refine.specs.declared.looking.Looked.{Looked}
-use Rattle.wcs_refine.specs.declared.predict.Fall.{Fall}
-use Rattle.wcs_refine.proofs.Meant.{least-cos-is, drifted-is, pruned-is, ids-are, points-are}
+use Rattle.query.specs.declared.Looked.{Looked}
+use Rattle.query.specs.declared.Fall.{Fall}
+use Rattle.query.proofs.Meant.{least-cos-is, pruned-is}
+use Rattle.wcs_refine.proofs.Meant.{ids-are, points-are}
 
 -- ---- a part of a list
 
@@ -90,11 +93,18 @@ scan-is k ds p {b} {axis} {s} {m} {least} e f g h i =
     ∙ ap (λ (x : Float). scanned ds (axis32 (boresight (p .ra) (p .dec))) x 0 (k .count))
     (i ∙ ap (λ (x : Float). leastCosOf x m) g ∙ ap (leastCosOf (searchRadius k)) h ∙ least-cos-is k)
 
-module _ (k : Settings) (n : ℕ) (ds : List Float) (p : Pose) (l ys : List ℕ) (c : ℕ) (few : k .count ≤ n) (room : 16 * n ≤ length l) where
+-- the region has room for every direction
+module _ (k : Settings) (n : ℕ) (ds : List Float) (p : Pose) (l ys : List ℕ) (c : ℕ)
+    (all : k .count ≡ length ds / 3) (few : k .count ≤ n) (room : 16 * n ≤ length l) where
+  scans-all : min (length ds / 3) (length (take (3 * n - 2 * n) (drop (2 * n) l))) ≡ k .count
+  scans-all = omega (arith, length-take (3 * n - 2 * n) (drop (2 * n) l), length-drop (2 * n) l)
+
   pub cone-listed : {b axis : List Float} {s m least : Float} → b ≡ boresight (p .ra) (p .dec) → axis ≡ axis32 b
       → s ≡ searchRadius (fixedOf k) → m ≡ requeryMargin (fixedOf k) → least ≡ leastCosOf s m
-      → Fronted (scanned ds axis least 0 (k .count)) (take (3 * n - 2 * n) (drop (2 * n) l)) ys c → ListedTo k n ds p l (put (2 * n) (3 * n) l ys) c
-  cone-listed {b} {axis} {s} {m} {least} e f g h i r =
+      → Fronted (scanned ds axis least 0 (min (length ds / 3) (length (take (3 * n - 2 * n) (drop (2 * n) l))))) (take (3 * n - 2 * n) (drop (2 * n) l)) ys c
+      → ListedTo k n ds p l (put (2 * n) (3 * n) l ys) c
+  cone-listed {b} {axis} {s} {m} {least} e f g h i t =
+      let r = subst (λ (x : ℕ). Fronted (scanned ds axis least 0 x) (take (3 * n - 2 * n) (drop (2 * n) l)) ys c) scans-all t in
       let fits : 2 * n ≤ length l = omega arith in
       let small = scanned-few ds axis least 0 (k .count) in
       record {
@@ -175,15 +185,6 @@ module _ (k : Settings) (n c : ℕ) (ds : List Float) (rows : List (List Float))
         behind = λ q. slice-same (3 * n) q l out wide same (rest out ∙ ap (drop (n - c)) past ∙ sym (rest l));
         matches = take-put (2 * n) (2 * n + c - 2 * n) l ys fits;
       }
-
--- ---- whether a query is due
-
-pub due-drifted : (k : Settings) (h : Held) {x y : Float} {r : Bool} → h .filled ≡ true → x ≡ requeryCos (fixedOf k) → y ≡ thetaMargin (fixedOf k)
-    → r ≡ driftedFrom (h .boresight) (h .theta) (h .pose) x y → r ≡ due k h
-due-drifted k h {x} {y} t e f g =
-    g ∙ ap (λ (z : Float). driftedFrom (h .boresight) (h .theta) (h .pose) z y) e
-    ∙ ap (driftedFrom (h .boresight) (h .theta) (h .pose) (requeryCos (fixedOf k))) f ∙ drifted-is (fixedOf k) (h .pose) (h .boresight) (h .theta)
-    ∙ ap (λ (b : Bool). cond b (drifted (fixedOf k) (h .pose) (h .boresight) (h .theta)) true) (sym t)
 
 -- ---- what the search comes to
 

@@ -13,7 +13,7 @@ use Rattle.fit.specs.Rows.{spotAt, directionAt, rowAt, rowsFrom, rows}
 use Rattle.project.specs.Camera.{boresight}
 use Rattle.fit.specs.declared.Pose.{Pose}
 use Rattle.entry.specs.Fixed.{Fixed, pruneR, keepR}
-use Rattle.wcs_refine.specs.Query.{dot32, axis32, leastCos, scanned, query, predicted, reaches, predictions, pruned}
+use Rattle.query.specs.Query.{dot32, axis32, leastCos, scanned, query, predicted, reaches, predictions, pruned}
 use Rattle.wcs_refine.specs.Associate.{links}
 use Rattle.wcs_refine.proofs.Along.{All}
 use Rattle.wcs_refine.proofs.Remaining.{Both, match-at}

@@ -17,8 +17,9 @@ use Rattle.fit.specs.declared.Pose.{Pose}
 use Rattle.fit.specs.declared.Clip.{Clip}
 use Rattle.fit.specs.declared.Clip.the-variants.{Kept, Unchanged}
 use Rattle.entry.specs.Fixed.{Fixed}
-use Rattle.wcs_refine.specs.Fit.{Passes, fitPasses, Statistics, none, some, statistics, taken, clipped}
-use Rattle.wcs_refine.specs.Query.{Cache, empty, full, query, drifted, Prediction, predictions, pruned}
+use Rattle.passes.specs.Fit.{Passes, fitPasses}
+use Rattle.wcs_refine.specs.Clip.{Statistics, none, some, statistics, taken, clipped}
+use Rattle.query.specs.Query.{Cache, empty, full, query, drifted, Prediction, predictions, pruned}
 use Rattle.wcs_refine.specs.Associate.{adaptivePx, laid, renamed, sameMatches}
 use Rattle.wcs_refine.specs.Round.{State, Next, go, done, refuse, Found, settled, associated, fresh, reused, searched, rest, fitted, round, Ending, refused, ended, Run, carry, loop}
 use Rattle.wcs_refine.proofs.Along.{either}

@@ -1,4 +1,4 @@
--- The parts' definitions, on the numbers of a Fixed, are those of Query and Associate. Assumes nothing.
+-- The parts' definitions of the predictions and of the matches are those of Query and Associate. Assumes nothing.
 use mathlib.Core.Path.{_≡_, refl, sym, ap, _∙_}
 use mathlib.Core.Bool.{Bool, true, false, cond}
 use mathlib.Core.List.{List, [], _∷_}
@@ -6,28 +6,14 @@ use Prim.Native.Nat.{ℕ, zero, suc}
 use lib.Ieee.{Float}
 use lib.ListN.{getD}
 use Rattle.fit.specs.Rows.{directionAt}
-use Rattle.fit.specs.declared.Pose.{Pose}
 use Rattle.matching.specs.Greedy.{Match, flat}
-use Rattle.entry.specs.Fixed.{Fixed, searchRadius, requeryMargin, requeryCos, pruneR, keepR, thetaMargin}
-use Rattle.wcs_refine.specs.Query.{leastCos, drifted, Prediction, predicted, reaches, predictions, pruned}
+use Rattle.entry.specs.Fixed.{Fixed, pruneR}
+use Rattle.query.specs.Query.{Prediction, predicted, reaches, predictions}
+use Rattle.query.specs.Listing.{fallOf, falling, standing}
 use Rattle.wcs_refine.specs.Associate.{laid, directionOf, renamed}
-use Rattle.wcs_refine.specs.Listing.{leastCosOf, driftedFrom, fallOf, falling, standing, points, idsOf, renamedBy}
-
-pub least-cos-is : (k : Fixed) → leastCosOf (searchRadius k) (requeryMargin k) ≡ leastCos k
-unfolding leastCosOf leastCos
-least-cos-is k = refl
-
-pub drifted-is : (k : Fixed) (p : Pose) (b : List Float) (theta : Float) → driftedFrom b theta p (requeryCos k) (thetaMargin k) ≡ drifted k p b theta
-unfolding driftedFrom drifted
-drifted-is k p b theta = refl
+use Rattle.wcs_refine.specs.Listing.{points, idsOf, renamedBy}
 
 module _ (k : Fixed) (ds : List Float) (rows : List (List Float)) where
-  pub pruned-is : (js : List ℕ) → standing (falling (k .scale) (k .cut) (keepR k) ds rows) js ≡ pruned k ds rows js
-  unfolding standing pruned fallOf predicted reaches
-  pruned-is [] = refl
-  pruned-is (j ∷ js) =
-      ap (λ (more : List ℕ). cond (reaches k rows (directionAt ds j) (keepR k) (predicted k rows j (directionAt ds j))) (j ∷ more) more) (pruned-is js)
-
   -- a prediction that is taken or left
   ids-cond : (b : Bool) (q : Prediction) (qs : List Prediction) → idsOf (cond b (q ∷ qs) qs) ≡ cond b (q .direction ∷ idsOf qs) (idsOf qs)
   unfolding idsOf

@@ -16,8 +16,8 @@ use Rattle.fit.specs.Residual.{keeps, keptFrom, thresholdOf, kept, Clipped, mad
 use Rattle.fit.specs.Rows.{directionAt}
 use Rattle.fit.specs.declared.Clip.the-variants.{Kept, Unchanged}
 use Rattle.entry.specs.Fixed.{Fixed, pruneR, keepR}
-use Rattle.wcs_refine.specs.Fit.{Statistics, none, some, taken, clipped}
-use Rattle.wcs_refine.specs.Query.{Prediction, predicted, reaches, predictions, pruned}
+use Rattle.wcs_refine.specs.Clip.{Statistics, none, some, taken, clipped}
+use Rattle.query.specs.Query.{Prediction, predicted, reaches, predictions, pruned}
 use Rattle.wcs_refine.specs.Associate.{Link, links, laid, directionOf, renamed}
 use Rattle.wcs_refine.proofs.Along.{All, ++-all, either}
 

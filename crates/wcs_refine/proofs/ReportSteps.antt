@@ -24,7 +24,7 @@ use Rattle.solve.specs.declared.Solution.{Solution}
 use Rattle.solve.specs.declared.Solution.the-variants.{Solved, Failed}
 use Rattle.wcs_refine.specs.Closing.{sumSquares, rootMean, Report, reported}
 use Rattle.entry.specs.Fixed.{Fixed}
-use Rattle.wcs_refine.specs.Passing.{covarianceOf}
+use Rattle.wcs_refine.specs.Cleaning.{covarianceOf}
 use Rattle.wcs_refine.proofs.Along.{either}
 
 front-in : (x : Float) (xs : List Float) → eq x minusOne ≡ false → inFront (x ∷ xs) ≡ x ∷ inFront xs

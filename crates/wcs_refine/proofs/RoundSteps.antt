@@ -15,18 +15,20 @@ use Rattle.fit.specs.declared.Pose.{Pose}
 use Rattle.entry.specs.declared.Settings.{Settings}
 use Rattle.entry.specs.Fixed.{radiusPx}
 use Rattle.entry.specs.Entry.{fixedOf}
-use Rattle.wcs_refine.specs.Fit.{fitPasses, Statistics, statistics, clipped}
+use Rattle.passes.specs.Fit.{fitPasses}
+use Rattle.wcs_refine.specs.Clip.{Statistics, statistics, clipped}
 use Rattle.wcs_refine.specs.Associate.{adaptivePx}
 use Rattle.wcs_refine.specs.Round.{refuse, Found, Round, searched, rest, fitted, round}
-use Rattle.wcs_refine.specs.Passing.{passesOf, statsOf, Statted, ClippedTo}
+use Rattle.passes.specs.Fit.{passesOf}
+use Rattle.wcs_refine.specs.Cleaning.{statsOf, Statted, ClippedTo}
 use Rattle.wcs_refine.specs.Keeping.{cacheOf, heldCache, heldMatches, heldState, withUsed, Ready, Fits, nextOf, SearchedTo, RoundTo}
 use Rattle.wcs_refine.specs.Stepping.{posed, stopped, refusalOf, residualsAt, TrimmedTo, restOf, RestTo}
-use Rattle.wcs_refine.specs.declared.keeping.Held.{Held}
+use Rattle.query.specs.declared.Held.{Held}
 use Rattle.wcs_refine.specs.declared.keeping.Verdict.{Verdict}
 use Rattle.wcs_refine.specs.declared.keeping.Verdict.the-variants.{GoOn, Done, Refused}
-use Rattle.wcs_refine.specs.declared.passing.Passed.{Passed}
-use Rattle.wcs_refine.specs.declared.passing.Stats.{Stats}
-use Rattle.wcs_refine.specs.declared.passing.Stats.the-variants.{Of, Missing}
+use Rattle.passes.specs.declared.Passed.{Passed}
+use Rattle.wcs_refine.specs.declared.clipping.Stats.{Stats}
+use Rattle.wcs_refine.specs.declared.clipping.Stats.the-variants.{Of, Missing}
 use Rattle.wcs_refine.specs.declared.searching.Sought.{Sought}
 use Rattle.wcs_refine.specs.declared.rounds.Trimmed.{Trimmed}
 use Rattle.wcs_refine.proofs.CleanSteps.{written-front, counted-front, residual-count}

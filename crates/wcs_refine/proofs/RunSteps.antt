@@ -20,13 +20,14 @@ use Rattle.solve.specs.declared.Solution.the-variants.{Solved, Failed}
 use Rattle.entry.specs.declared.Settings.{Settings}
 use Rattle.entry.specs.Fixed.{Fixed}
 use Rattle.entry.specs.Entry.{fixedOf}
-use Rattle.wcs_refine.specs.Fit.{moved, sound, still, Passes, goesOn, passed, fitPasses, statistics, clipped}
-use Rattle.wcs_refine.specs.Query.{query, Cache, empty, full, drifted, Prediction, predictions, pruned}
+use Rattle.passes.specs.Fit.{moved, sound, still, Passes, goesOn, passed, fitPasses}
+use Rattle.wcs_refine.specs.Clip.{statistics, clipped}
+use Rattle.query.specs.Query.{query, Cache, empty, full, drifted, Prediction, predictions, pruned}
 use Rattle.wcs_refine.specs.Associate.{adaptivePx, laid, renamed, sameMatches}
 use Rattle.wcs_refine.specs.Round.{State, Next, go, done, refuse, Found, settled, associated, fresh, reused, searched, rest, fitted, round, Ending, refused, ended, Run, carry, loop}
 use Rattle.wcs_refine.specs.Keeping.{heldState, Fits, nextOf, RoundTo, endingOf, RanTo}
 use Rattle.wcs_refine.specs.Stepping.{stopped, refusalOf}
-use Rattle.wcs_refine.specs.declared.keeping.Held.{Held}
+use Rattle.query.specs.declared.Held.{Held}
 use Rattle.wcs_refine.specs.declared.keeping.Verdict.{Verdict}
 use Rattle.wcs_refine.specs.declared.keeping.Verdict.the-variants.{GoOn, Done, Refused}
 use Rattle.wcs_refine.specs.declared.rounds.Rounded.{Rounded}

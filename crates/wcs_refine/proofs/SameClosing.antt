@@ -15,7 +15,8 @@ use Rattle.solve.specs.declared.Solution.the-variants.{Solved, Failed}
 use Rattle.fit.specs.declared.Clip.{Clip}
 use Rattle.fit.specs.declared.Clip.the-variants.{Kept, Unchanged}
 use Rattle.entry.specs.Fixed.{Fixed}
-use Rattle.wcs_refine.specs.Fit.{moved, sound, Statistics, none, some, statistics, taken}
+use Rattle.passes.specs.Fit.{moved, sound}
+use Rattle.wcs_refine.specs.Clip.{Statistics, none, some, statistics, taken}
 use Rattle.wcs_refine.specs.Closing.{Closed, unsound, fine, ifSound, refitted, recleaned, cleanedBy, cleaned}
 use Rattle.wcs_refine.proofs.Along.{either}
 use Rattle.wcs_refine.proofs.Remaining.{clip-all}

@@ -8,8 +8,8 @@ use Rattle.rounding.specs.Arith.{_⊗_, _⊘_, f64}
 use Rattle.rounding.specs.Methods.{maxF, minF}
 use Rattle.matching.specs.Greedy.{Match}
 use Rattle.entry.specs.Fixed.{Fixed, radiusPx}
-use Rattle.wcs_refine.specs.Fit.{Statistics, none, some}
-use Rattle.wcs_refine.specs.Query.{Prediction}
+use Rattle.wcs_refine.specs.Clip.{Statistics, none, some}
+use Rattle.query.specs.Query.{Prediction}
 
 -- adaptive_radius_px: (5 σ / ps).max(2.5).min(radius_px), or radius_px without statistics
 unfoldable pub adaptivePx : Fixed → Statistics → Float

@@ -10,7 +10,7 @@ use Rattle.fit.specs.Rows.{rows}
 use Rattle.entry.specs.Arguments.{Call, Given, Lent}
 use Rattle.entry.specs.Check.{refusal}
 use Rattle.entry.specs.Fixed.{Fixed, fixed, startPose}
-use Rattle.wcs_refine.specs.Query.{empty}
+use Rattle.query.specs.Query.{empty}
 use Rattle.wcs_refine.specs.Round.{State, Ending, refused, ended, Run, loop}
 use Rattle.wcs_refine.specs.Closing.{Closed, unsound, fine, cleaned, Report, reported}
 

@@ -20,7 +20,8 @@ use Rattle.fit.specs.declared.Clip.{Clip}
 use Rattle.fit.specs.declared.Clip.the-variants.{Kept, Unchanged}
 use Rattle.fit.specs.declared.Counted.{Counted}
 use Rattle.entry.specs.Fixed.{Fixed}
-use Rattle.wcs_refine.specs.Fit.{moved, sound, Statistics, none, some, statistics, taken}
+use Rattle.passes.specs.Fit.{moved, sound}
+use Rattle.wcs_refine.specs.Clip.{Statistics, none, some, statistics, taken}
 
 -- The clips meet refusal 12, or leave a pose and matches.
 pub data Closed : Type 0 where

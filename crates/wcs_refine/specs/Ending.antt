@@ -12,7 +12,7 @@ use Rattle.wcs_refine.specs.Call.{Answer, no, ok, start}
 use Rattle.wcs_refine.specs.Keeping.{heldState}
 use Rattle.wcs_refine.specs.Returned.{valuesOf}
 use Rattle.wcs_refine.specs.declared.WcsRefineResult.{WcsRefineResult}
-use Rattle.wcs_refine.specs.declared.keeping.Held.{Held}
+use Rattle.query.specs.declared.Held.{Held}
 
 -- The state that the run starts from: the starting matches at the front of the working list, and no cached query.
 pub record Begun (matches : List ℕ) (rotation : List (List Float)) (scale : Float) (after : List ℕ) (h : Held) : Type 0 where

@@ -13,15 +13,15 @@ use Rattle.fit.specs.declared.Pose.{Pose}
 use Rattle.entry.specs.declared.Settings.{Settings}
 use Rattle.entry.specs.Fixed.{Fixed}
 use Rattle.entry.specs.Entry.{fixedOf}
-use Rattle.wcs_refine.specs.Query.{Cache, empty, full, Prediction}
+use Rattle.query.specs.Query.{Cache, empty, full, Prediction}
 use Rattle.wcs_refine.specs.Associate.{laid}
 use Rattle.wcs_refine.specs.Listing.{idsOf}
 use Rattle.wcs_refine.specs.Round.{State, Next, go, done, refuse, Found, Round, associated, searched, round, Ending, refused, ended, Run, loop}
-use Rattle.wcs_refine.specs.declared.keeping.Held.{Held}
+use Rattle.query.specs.declared.Held.{Held}
 use Rattle.wcs_refine.specs.declared.keeping.Verdict.{Verdict}
 use Rattle.wcs_refine.specs.declared.keeping.Verdict.the-variants.{GoOn, Done, Refused}
 use Rattle.wcs_refine.specs.declared.associating.Step.{Step}
-use Rattle.wcs_refine.specs.declared.looking.Looked.{Looked}
+use Rattle.query.specs.declared.Looked.{Looked}
 use Rattle.wcs_refine.specs.declared.searching.Sought.{Sought}
 use Rattle.wcs_refine.specs.declared.rounds.Rounded.{Rounded}
 use Rattle.wcs_refine.specs.declared.rounds.Ran.{Ran}

@@ -1,11 +1,10 @@
-pub mod Fit
-pub mod Query
+pub mod Clip
 pub mod Associate
 pub mod Round
 pub mod Closing
 pub mod Call
 pub mod Unseen
-pub mod Passing
+pub mod Cleaning
 pub mod Listing
 pub mod Keeping
 pub mod Returned

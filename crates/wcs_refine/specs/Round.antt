@@ -13,8 +13,9 @@ use Rattle.fit.specs.Rows.{Row, rows, viewOf}
 use Rattle.fit.specs.Residual.{residuals}
 use Rattle.fit.specs.declared.Pose.{Pose}
 use Rattle.entry.specs.Fixed.{Fixed}
-use Rattle.wcs_refine.specs.Fit.{Passes, fitPasses, Statistics, statistics, clipped}
-use Rattle.wcs_refine.specs.Query.{Cache, empty, full, query, drifted, Prediction, predictions, pruned}
+use Rattle.passes.specs.Fit.{Passes, fitPasses}
+use Rattle.wcs_refine.specs.Clip.{Statistics, statistics, clipped}
+use Rattle.query.specs.Query.{Cache, empty, full, query, drifted, Prediction, predictions, pruned}
 use Rattle.wcs_refine.specs.Associate.{adaptivePx, laid, renamed, sameMatches}
 
 -- What a round starts from and leaves: the pose, the matches, flat, and the cached query.

@@ -1,42 +1,15 @@
 -- The first half of a round's search, as its parts leave the working lists. Definitions only. Assumes nothing.
 use mathlib.Core.Path.{_≡_}
 use Prim.Native.Nat.{ℕ, _+_, _*_, _≤_}
-use mathlib.Core.Bool.{Bool, true, cond}
 use mathlib.Core.List.{List}
 use lib.ListN.{take}
 use lib.Seq.{slice}
 use lib.Ieee.{Float}
-use Rattle.project.specs.Camera.{boresight}
 use Rattle.fit.specs.declared.Pose.{Pose}
 use Rattle.entry.specs.declared.Settings.{Settings}
 use Rattle.entry.specs.Entry.{fixedOf}
-use Rattle.wcs_refine.specs.Query.{query, drifted, predictions, pruned}
+use Rattle.query.specs.Query.{query, predictions, pruned}
 use Rattle.wcs_refine.specs.Keeping.{Predicted}
-use Rattle.wcs_refine.specs.declared.keeping.Held.{Held}
-use Rattle.wcs_refine.specs.declared.looking.Looked.{Looked}
-
--- A query is due where none is cached, or the pose has drifted from the cached one.
-abbrev pub due : Settings → Held → Bool
-due k h = cond (h .filled) (drifted (fixedOf k) (h .pose) (h .boresight) (h .theta)) true
-
--- The state and the counts after a fresh query, of which so many directions are cached.
-abbrev pub afresh : Held → ℕ → ℕ → Looked
-afresh h cached predicted = record {
-  held = record {
-    pose = h .pose;
-    used = h .used;
-    filled = true;
-    boresight = boresight (h .pose .ra) (h .pose .dec);
-    theta = h .pose .theta;
-    cached = cached;
-  };
-  predicted = predicted;
-  queries = 1;
-}
-
--- The same where the cached query serves: the state stays.
-abbrev pub kept : Held → ℕ → Looked
-kept h predicted = record { held = h; predicted = predicted; queries = 0 }
 
 -- The query stands in the region of the cached directions: c of them.
 pub record ListedTo (k : Settings) (n : ℕ) (directions : List Float) (p : Pose) (before after : List ℕ) (c : ℕ) : Type 0 where

@@ -10,11 +10,11 @@ use Rattle.fit.specs.Residual.{residuals}
 use Rattle.fit.specs.declared.Pose.{Pose}
 use Rattle.entry.specs.declared.Settings.{Settings}
 use Rattle.entry.specs.Entry.{fixedOf}
-use Rattle.wcs_refine.specs.Fit.{statistics, clipped}
+use Rattle.wcs_refine.specs.Clip.{statistics, clipped}
 use Rattle.wcs_refine.specs.Associate.{adaptivePx}
 use Rattle.wcs_refine.specs.Round.{Found, rest}
 use Rattle.wcs_refine.specs.Keeping.{heldCache, heldMatches, heldState, Fits, nextOf}
-use Rattle.wcs_refine.specs.declared.keeping.Held.{Held}
+use Rattle.query.specs.declared.Held.{Held}
 use Rattle.wcs_refine.specs.declared.keeping.Verdict.{Verdict}
 use Rattle.wcs_refine.specs.declared.keeping.Verdict.the-variants.{GoOn, Done, Refused}
 use Rattle.wcs_refine.specs.declared.searching.Sought.{Sought}

@@ -3,7 +3,7 @@ ghost use mathlib.Core.Path.{_≡_};
 ghost use mathlib.Core.List.{List};
 ghost use Prim.Native.Nat.{ℕ, _/_};
 ghost use lib.ListN.{length};
-ghost use Rattle.wcs_refine.specs.Passing.{reportOf};
+ghost use Rattle.wcs_refine.specs.Cleaning.{reportOf};
 ghost use Rattle.wcs_refine.specs.Returned.{refusedWith, accepted};
 use crate::WcsRefineResult;
 use crate::reporting::Numbers;

@@ -7,13 +7,13 @@ ghost use lib.Seq.{slice};
 ghost use Rattle.wcs_refine.specs.Keeping.{Matchable, Fits, AssociatedTo};
 ghost use Rattle.wcs_refine.specs.Comparing.{FoundTo};
 use crate::comparing::same_matches;
-use crate::keeping::Held;
 use crate::keeping::Verdict;
 use crate::keeping::with_used;
 use crate::rename::renamed_into;
 use entry::Settings;
 use matching::Matched;
 use matching::greedy_unique_matches_by_strips;
+use query::Held;
 
 // The fewest matches that take the place of the present ones.
 const FEWEST: usize = 4;

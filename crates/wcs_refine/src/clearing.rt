@@ -3,7 +3,7 @@ ghost use mathlib.Core.Path.{_≡_};
 ghost use Prim.Native.Nat.{_≤_};
 ghost use lib.ListN.{length, replicate};
 ghost use Rattle.rounding.specs.Arith.{zero64};
-ghost use Rattle.wcs_refine.specs.Listing.{fronted};
+ghost use Rattle.query.specs.Listing.{fronted};
 
 pub(crate) fn clear_numbers(l: &mut [usize])
     ensures { λ _. ⌜ now (l .exit) ≡ replicate (length (now (l .entry))) 0 ⌝ }

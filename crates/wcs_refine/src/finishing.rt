@@ -10,11 +10,11 @@ use crate::answering::accepted;
 use crate::answering::refused;
 use crate::cleaning::clean;
 use crate::clearing::lay_over;
-use crate::keeping::Held;
 use crate::reporting::report;
 use crate::rounds::Ran;
 use entry::Settings;
 use entry::start_pose;
+use query::Held;
 
 // The refusal of a pose that leaves its bounds.
 const UNSOUND: usize = 12;

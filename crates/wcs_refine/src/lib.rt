@@ -8,9 +8,8 @@ use entry::refusal_of;
 use entry::settings_of;
 use fit::Pose;
 
-mod passing; // passing.rt: the passes of the fit, its statistics and its clip
-mod scan; // scan.rt: the cone query
-mod predict; // predict.rt: where the listed directions fall
+mod clipping; // clipping.rt: the statistics of the residuals, and the clip of a round
+mod predict; // predict.rt: the predictions of the listed directions
 mod rename; // rename.rt: the matches by their directions
 mod cleaning; // cleaning.rt: the closing clips, each with a refit
 mod reporting; // reporting.rt: the numbers that an accepted call reports

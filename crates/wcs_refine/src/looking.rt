@@ -1,78 +1,29 @@
 // The first half of a round's search: the cone query, unless the cached one still serves, and the predictions.
 ghost use mathlib.Core.Path.{_≡_};
 ghost use mathlib.Core.Bool.{true, false};
-ghost use Prim.Native.Nat.{_*_, _≤_};
+ghost use Prim.Native.Nat.{_*_, _/_, _≤_};
 ghost use lib.ListN.{length};
+ghost use Rattle.query.specs.Sighting.{due};
 ghost use Rattle.wcs_refine.specs.Keeping.{Roomy, Fits, LookedTo};
-ghost use Rattle.wcs_refine.specs.Sighting.{due, afresh, kept, ListedTo, ToldTo, PrunedTo};
-use crate::keeping::Held;
+ghost use Rattle.wcs_refine.specs.Sighting.{ListedTo, ToldTo, PrunedTo};
 use crate::predict::predict_into;
-use crate::predict::prune_in_place;
-use crate::scan::axis32;
-use crate::scan::drifted_from;
-use crate::scan::least_cos_of;
-use crate::scan::scan_into;
 use entry::Settings;
 use entry::keep_r;
 use entry::prune_r;
-use entry::requery_cos;
 use entry::requery_margin;
 use entry::search_radius;
-use entry::theta_margin;
 use fit::Pose;
 use project::boresight_of;
 use project::camera_rows_f64;
-
-// How many predictions stand in their regions, and how many queries were made: one or none.
-pub(crate) struct Looked {
-    pub held: Held,
-    pub predicted: usize,
-    pub queries: usize,
-}
-
-// Whether a query is due: none is cached, or the pose has drifted from it.
-fn is_due(k: Settings, held: Held) -> bool
-    ensures { λ r. ⌜ r ≡ due k held ⌝ }
-{
-    if held.filled {
-        let b = held.boresight;
-        let pose = held.pose;
-        return drifted_from(b, held.theta, pose, requery_cos(k), theta_margin(k));
-    }
-    true
-}
-
-// The answer after a fresh query, which is cached at the pose as it is.
-fn after_query(held: Held, cached: usize, predicted: usize) -> Looked
-    ensures { λ r. ⌜ r ≡ afresh held cached predicted ⌝ }
-{
-    let pose = held.pose;
-    let boresight = boresight_of(pose.ra, pose.dec);
-    let now = Held {
-        pose,
-        used: held.used,
-        filled: true,
-        boresight,
-        theta: pose.theta,
-        cached,
-    };
-    Looked {
-        held: now,
-        predicted,
-        queries: 1,
-    }
-}
-
-// The answer where the cached query serves.
-fn without_query(held: Held, predicted: usize) -> Looked
-    ensures { λ r. ⌜ r ≡ kept held predicted ⌝ }
-{
-    Looked {
-        held,
-        predicted,
-        queries: 0,
-    }
-}
+use query::Held;
+use query::Looked;
+use query::after_query;
+use query::axis32;
+use query::is_due;
+use query::least_cos_of;
+use query::prune_in_place;
+use query::scan_into;
+use query::without_query;
 
 // The cone query at a pose, to the region of the cached directions.
 fn list_cone(
@@ -82,14 +33,14 @@ fn list_cone(
     pose: Pose,
     numbers: &mut [usize],
 ) -> usize
-    requires { ⌜ (k .count ≤ room) × (3 * k .count ≤ length (now directions)) × (16 * room ≤ length (now numbers)) ⌝ }
+    requires { ⌜ (k .count ≡ length (now directions) / 3) × (k .count ≤ room) × (16 * room ≤ length (now numbers)) ⌝ }
     ensures { λ r. ⌜ ListedTo k room (now (directions .entry)) pose (now (numbers .entry)) (now (numbers .exit)) r ⌝ }
 {
     let axis = axis32(boresight_of(pose.ra, pose.dec));
     let least = least_cos_of(search_radius(k), requery_margin(k));
     let from = 2 * room;
     let to = 3 * room;
-    scan_into(directions, k.count, axis, least, &mut numbers[from..to])
+    scan_into(directions, axis, least, &mut numbers[from..to])
 }
 
 // The predictions of the n listed directions, to their regions.

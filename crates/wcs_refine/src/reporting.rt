@@ -13,7 +13,7 @@ ghost use Rattle.fit.specs.Residual.{inFront};
 ghost use Rattle.fit.specs.Normal.{normalMatrix};
 ghost use Rattle.entry.specs.Fixed.{Fixed};
 ghost use Rattle.wcs_refine.specs.Closing.{sumSquares, reported};
-ghost use Rattle.wcs_refine.specs.Passing.{covarianceOf, reportOf};
+ghost use Rattle.wcs_refine.specs.Cleaning.{covarianceOf, reportOf};
 use fit::NO_RESIDUAL;
 use fit::Pose;
 use fit::compute_residuals;

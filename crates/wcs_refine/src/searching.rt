@@ -2,10 +2,10 @@
 ghost use mathlib.Core.Path.{_≡_};
 ghost use Rattle.wcs_refine.specs.Keeping.{Ready, Fits, SearchedTo};
 use crate::associating::associate;
-use crate::keeping::Held;
 use crate::keeping::Verdict;
 use crate::looking::look;
 use entry::Settings;
+use query::Held;
 
 pub(crate) struct Sought {
     pub held: Held,

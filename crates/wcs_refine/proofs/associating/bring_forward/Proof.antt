@@ -6,7 +6,7 @@ use native.Mathlib.Numerals.{add-one}
 use native.Mathlib.Omega.{arith}
 use lib.ListN.{length, getD, set, drop}
 use lib.Seq.{slice, slice-cons, slice-empty, length-slice}
-use Rattle.wcs_refine.proofs.Listed.{Writing, begin, onward, front-push, behind, front-whole}
+use Rattle.query.proofs.Listed.{Writing, begin, onward, front-push, behind, front-whole}
 use borrow.Author.Needs.{needs}
 use Rattle.wcs_refine.proofs.associating.bring_forward.Statement.{statement}
 use Rattle.wcs_refine.proofs.associating.bring_forward.Tie as tie

@@ -2,7 +2,7 @@
 use mathlib.Core.Path.{_≡_}
 use Prim.Native.Nat.{_≤_, _-_}
 use lib.ListN.{length, drop}
-use Rattle.wcs_refine.proofs.Listed.{Writing, begin}
+use Rattle.query.proofs.Listed.{Writing, begin}
 use Rattle.wcs_refine.proofs.EndSteps.{lay-next, lay-done}
 use borrow.Author.Needs.{needs}
 use Rattle.wcs_refine.proofs.clearing.lay_over.Statement.{statement}

@@ -50,8 +50,8 @@ returns c =
     let f = e .before .before .before .before in
     let s = f .before .before .before in
     let a = s .args in
-    cone-listed (a .k) (a .room) (a .directions .now) (a .pose) (a .numbers .now) (d .scan-into .last .1 .1 .1 .1 .0) (d .scan-into .result)
-    (s .pre .0) (s .pre .2) (f .boresight-of .ensures) (e .before .before .before .axis32 .ensures) (e .before .before .search-radius .ensures)
+    cone-listed (a .k) (a .room) (a .directions .now) (a .pose) (a .numbers .now) (d .scan-into .last .1 .1 .1 .0) (d .scan-into .result)
+    (s .pre .0) (s .pre .1) (s .pre .2) (f .boresight-of .ensures) (e .before .before .before .axis32 .ensures) (e .before .before .search-radius .ensures)
     (e .before .requery-margin .ensures) (e .least-cos-of .ensures) (d .scan-into .ensures)
 
 pub list-cone-spec : {M : Type 1} → statement M

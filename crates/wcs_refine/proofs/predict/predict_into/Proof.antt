@@ -11,9 +11,11 @@ use lib.ListN.{length, getD, set, take, drop, length-set}
 use lib.Seq.{slice, slice-empty, length-slice, ext-getD, getD-drop, getD-take}
 use Rattle.rounding.specs.Arith.{_⊘_, one64}
 use Rattle.fit.specs.Rows.{directionAt}
-use Rattle.wcs_refine.specs.Listing.{Told, fallOf, falling, standing, points}
-use Rattle.wcs_refine.specs.declared.predict.Fall.{Fall}
-use Rattle.wcs_refine.proofs.Listed.{Writing, begin, onward, push, in-front, behind, how-many, whole, front-push, front-whole, next-stands, next-off, next-points, next-no-points}
+use Rattle.query.specs.Listing.{fallOf, falling, standing}
+use Rattle.wcs_refine.specs.Listing.{Told, points}
+use Rattle.query.specs.declared.Fall.{Fall}
+use Rattle.query.proofs.Listed.{Writing, begin, onward, push, in-front, behind, how-many, whole, front-push, front-whole, next-stands, next-off}
+use Rattle.wcs_refine.proofs.Listed.{next-points, next-no-points}
 use borrow.Author.Needs.{needs}
 use Rattle.wcs_refine.proofs.predict.predict_into.Statement.{statement}
 use Rattle.wcs_refine.proofs.predict.predict_into.Tie as tie

@@ -8,7 +8,7 @@ use native.Mathlib.Omega.{arith}
 use lib.ListN.{length, getD, set, take, drop, length-set}
 use lib.Seq.{slice, slice-empty}
 use Rattle.wcs_refine.specs.Listing.{renamedBy}
-use Rattle.wcs_refine.proofs.Listed.{Writing, begin, onward, push, in-front, behind, part-same, whole}
+use Rattle.query.proofs.Listed.{Writing, begin, onward, push, in-front, behind, part-same, whole}
 use Rattle.wcs_refine.proofs.TableSteps.{two-more}
 use borrow.Author.Needs.{needs}
 use Rattle.wcs_refine.proofs.rename.renamed_into.Statement.{statement}

@@ -1,7 +1,7 @@
 -- `wcs_refine::reporting::covariance` meets its contract. Assumes nothing.
 use mathlib.Core.Path.{ap, _∙_}
 use Rattle.fit.specs.declared.Counted.{Counted}
-use Rattle.wcs_refine.specs.Passing.{covarianceOf}
+use Rattle.wcs_refine.specs.Cleaning.{covarianceOf}
 use borrow.Author.Needs.{needs}
 use Rattle.wcs_refine.proofs.reporting.covariance.Statement.{statement}
 use Rattle.wcs_refine.proofs.reporting.covariance.Tie as tie

@@ -1,0 +1,12 @@
+-- `panel::reaches` meets its contract. Assumes nothing.
+use Rattle.query.proofs.panel.reaches.Statement.{statement}
+use Rattle.query.proofs.panel.reaches.Tie as tie
+
+returns : tie.Need-returns
+returns c = rw (c .if1 .taken)
+
+returns-2 : tie.Need-returns-2
+returns-2 c = rw (c .if1 .left)
+
+pub reaches-spec : {M : Type 1} → statement M
+reaches-spec = tie.close (tie.spec returns returns-2)
