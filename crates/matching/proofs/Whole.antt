@@ -11,10 +11,10 @@ use lib.ListN.{length, take, drop, getD, replicate, length-drop, length-replicat
 use lib.Seq.{slice, length-slice, getD-take, getD-drop, take-at, drop-at, take-length, drop-length}
 use Rattle.rounding.specs.Arith.{zero64}
 use Rattle.matching.specs.declared.Matched.{Matched}
-use Rattle.matching.specs.declared.Matched.the-variants.{Matches, TooMany, Short}
+use Rattle.matching.specs.declared.Matched.the-variants.{Matches, Short}
 use Rattle.matching.specs.Pairs.{Pair, pairs, pairsFrom, spotsWithin}
 use Rattle.matching.specs.Merge.{notAfter, merged}
-use Rattle.matching.specs.Greedy.{Outcome, assigned, flat, cleared, clearedN, capacity, marks, needed, placed, overfull, matchesOf, greedyUniqueMatches}
+use Rattle.matching.specs.Greedy.{Outcome, assigned, flat, cleared, clearedN, capacity, needed, placed, overfull, matchesOf, greedyUniqueMatches}
 use Rattle.matching.specs.Greedy.{stripRoom, greedyByStrips}
 use Rattle.matching.specs.Ordered.{All}
 use Rattle.matching.specs.Strips.{Gathered}
@@ -103,108 +103,106 @@ in-turn np cap r2 points predicted d ix d' ix' r did =
 
 -- ---- the whole call
 
-module _ (points : List Float) (limit : ℕ) (predicted : List Float) (r2 : Float) (d : List Float) (ix w : List ℕ) where
-  abbrev np : ℕ
-  np = spotsWithin points limit
+-- The code's numbers: the spots that are looked at, and how many matches there can be.
+module _ (points : List Float) (limit : ℕ) (predicted : List Float) (r2 : Float) (d : List Float) (ix w : List ℕ)
+    (np least : ℕ) (spots : np ≡ spotsWithin points limit) (lesser : least ≡ min np (length predicted / 2)) where
+  pub too-short : length w < np + length predicted / 2 + 2 * least → outcome Short d ix w ≡ greedyUniqueMatches points limit predicted r2 d ix w
+  unfolding greedyUniqueMatches
+  too-short h = rw (lt-ltb _ _ (rw (lesser, spots) at h))
 
+  pub too-short-for-strips : length w < 2 * np + np + length predicted / 2 + 2 * least → outcome Short d ix w ≡ greedyByStrips points limit predicted r2 d ix w
+  unfolding greedyByStrips
+  too-short-for-strips h = rw (← spots, ← lesser, lt-ltb (length w) (2 * np + (np + length predicted / 2 + 2 * least)) (omega arith))
+
+-- behind the strips the same is left as by the call without strips
+behind-strips : (points : List Float) (limit : ℕ) (predicted : List Float) (r2 : Float) (d : List Float) (ix w : List ℕ)
+    → stripRoom points limit + needed points limit predicted ≤ length w → (o : Outcome)
+    → o ≡ greedyUniqueMatches points limit predicted r2 d ix (drop (stripRoom points limit) w)
+    → outcome (o .answer) (o .distances) (o .indices) (replicate (stripRoom points limit) 0 ++ o .work) ≡ greedyByStrips points limit predicted r2 d ix w
+unfolding greedyByStrips
+behind-strips points limit predicted r2 d ix w fits o e =
+    rw (le-ltb (length w) _ fits) (ap (λ (o : Outcome). outcome (o .answer) (o .distances) (o .indices) (replicate (stripRoom points limit) 0 ++ o .work)) e)
+
+-- The pairs were gathered, in whatever order, and `cap` of them fit.
+module _ (points : List Float) (limit : ℕ) (predicted : List Float) (r2 : Float) (d : List Float) (ix : List ℕ)
+    (np cap : ℕ) (spots : np ≡ spotsWithin points limit) (most : cap ≡ capacity d ix)
+    (r : ℕ) (d' : List Float) (ix' : List ℕ) (did : Gathered np cap r2 points predicted d ix d' ix' r) where
   abbrev nq : ℕ
   nq = length predicted / 2
 
-  pub too-short : length w < np + nq + 2 * min np nq → outcome Short d ix w ≡ greedyUniqueMatches points limit predicted r2 d ix w
-  unfolding greedyUniqueMatches
-  too-short h = rw (lt-ltb _ _ h)
+  -- where they all fit, they are what is ordered and assigned
+  pub given : r ≤ cap → All (Inside np nq) (take r (laid d' ix'))
+  given h =
+      let f = all-there cap (did .list) d ix (omega arith) (omega arith) r d' ix' (did .pushed) h in
+      rw (f .1) (candidates-inside np r2 points predicted (did .list) (did .made))
 
-  module _ (r : ℕ) (d' : List Float) (ix' : List ℕ) (did : Gathered np (capacity d ix) r2 points predicted d ix d' ix' r) where
-    -- where all pairs fit, they are what is ordered and assigned
-    pub given : r ≤ capacity d ix → All (Inside np nq) (take r (laid d' ix'))
-    given h =
-        let f = all-there (capacity d ix) (did .list) d ix (omega arith) (omega arith) r d' ix' (did .pushed) h in
-        rw (f .1) (candidates-inside np r2 points predicted (did .list) (did .made))
+  -- they are as many as all pairs, found in their order
+  as-many : length (did .list) ≡ length (pairsFrom r2 points predicted 0 np)
+  as-many = same-length (did .list) (pairsFrom r2 points predicted 0 np) (did .same)
 
-    -- what was gathered is as long as all pairs, found in their order
-    as-many : length (did .list) ≡ length (pairsFrom r2 points predicted 0 np)
-    as-many = same-length (did .list) (pairsFrom r2 points predicted 0 np) (did .same)
+  module _ (w : List ℕ) (room : needed points limit predicted ≤ length w) where
+    too-many : cap < r → concluded np nq cap r d' ix' w ≡ greedyUniqueMatches points limit predicted r2 d ix w
+    unfolding concluded greedyUniqueMatches pairs overfull
+    too-many h =
+        let f = too-full cap (did .list) d ix (omega arith) (omega arith) r d' ix' (did .pushed) h in
+        rw (lt-ltb cap r h, le-ltb (length w) _ room, ← spots, ← most, ← as-many, lt-ltb cap _ (f .0))
+        (same-outcome refl
+        (ap (λ (l : List Float). replicate cap zero64 ++ l) (f .1 .distances))
+        (ap (λ (l : List ℕ). replicate (2 * cap) 0 ++ l) (f .1 .indices))
+        refl)
 
-    module _ (room : np + nq + 2 * min np nq ≤ length w) where
-      too-many : capacity d ix < r → concluded np nq (capacity d ix) r d' ix' w ≡ greedyUniqueMatches points limit predicted r2 d ix w
-      unfolding concluded greedyUniqueMatches pairs overfull
-      too-many h =
-          let f = too-full (capacity d ix) (did .list) d ix (omega arith) (omega arith) r d' ix' (did .pushed) h in
-          rw (lt-ltb (capacity d ix) r h, le-ltb (length w) _ room, ← as-many, lt-ltb (capacity d ix) _ (f .0))
-          (same-outcome refl
-          (ap (λ (l : List Float). replicate (capacity d ix) zero64 ++ l) (f .1 .distances))
-          (ap (λ (l : List ℕ). replicate (2 * capacity d ix) 0 ++ l) (f .1 .indices))
-          refl)
+    all-fit : r ≤ cap → concluded np nq cap r d' ix' w ≡ greedyUniqueMatches points limit predicted r2 d ix w
+    unfolding concluded greedyUniqueMatches pairs matchesOf placed
+    all-fit h =
+        let f = all-there cap (did .list) d ix (omega arith) (omega arith) r d' ix' (did .pushed) h in
+        let b = later (2 * r) (omega arith) (f .3) in
+        let e : 2 * (2 * r) ≡ 4 * r = omega arith in
+        let count = f .2 ∙ as-many in
+        let order = ap (merged notAfter) (f .1) ∙ merged-rearranged np points predicted r2 (did .list) (did .made) (did .same) in
+        rw (le-ltb cap r h)
+        (ap (λ (l : List Pair). placed (np + nq) r (assigned [] l) d' ix' w) order
+        ∙ rw (le-ltb (length w) _ room, ← spots, ← most, le-ltb cap (length (pairsFrom r2 points predicted 0 np)) (omega arith), ← count)
+        (same-outcome refl
+        (ap (λ (l : List Float). replicate (2 * r) zero64 ++ l) (b .distances))
+        (ap (λ (l : List ℕ). replicate (4 * r) 0 ++ l) (rw e at (b .indices)))
+        refl))
 
-      all-fit : r ≤ capacity d ix → concluded np nq (capacity d ix) r d' ix' w ≡ greedyUniqueMatches points limit predicted r2 d ix w
-      unfolding concluded greedyUniqueMatches pairs matchesOf placed
-      all-fit h =
-          let f = all-there (capacity d ix) (did .list) d ix (omega arith) (omega arith) r d' ix' (did .pushed) h in
-          let b = later (2 * r) (omega arith) (f .3) in
-          let e : 2 * (2 * r) ≡ 4 * r = omega arith in
-          let count = f .2 ∙ as-many in
-          let order = ap (merged notAfter) (f .1) ∙ merged-rearranged np points predicted r2 (did .list) (did .made) (did .same) in
-          rw (le-ltb (capacity d ix) r h)
-          (ap (λ (l : List Pair). placed (np + nq) r (assigned [] l) d' ix' w) order
-          ∙ rw (le-ltb (length w) _ room, le-ltb (capacity d ix) (length (pairsFrom r2 points predicted 0 np)) (omega arith), ← count)
-          (same-outcome refl
-          (ap (λ (l : List Float). replicate (2 * r) zero64 ++ l) (b .distances))
-          (ap (λ (l : List ℕ). replicate (4 * r) 0 ++ l) (rw e at (b .indices)))
-          refl))
+    -- so it is the same answer in both cases
+    concluded-whole : concluded np nq cap r d' ix' w ≡ greedyUniqueMatches points limit predicted r2 d ix w
+    concluded-whole = ⊎-elim too-many all-fit (below-or cap r)
 
-      -- the pairs that were gathered, in whatever order, give what the definition says
-      pub concluded-whole : concluded np nq (capacity d ix) r d' ix' w ≡ greedyUniqueMatches points limit predicted r2 d ix w
-      concluded-whole = ⊎-elim too-many all-fit (below-or (capacity d ix) r)
+  -- the same, from the numbers that the code compares
+  pub answered : (w : List ℕ) (least : ℕ) → least ≡ min np nq → np + nq + 2 * least ≤ length w → (o : Outcome)
+      → o ≡ concluded np nq cap r d' ix' w → o ≡ greedyUniqueMatches points limit predicted r2 d ix w
+  answered w least lesser room o done = done ∙ concluded-whole w (rw (lesser, spots) at room)
 
--- ---- the whole call with room for strips
+  -- ---- with room for strips
 
--- A list whose front is cleared, and that is as before behind it: the rest is lent and comes back.
-module _ (n : ℕ) (w w' : List ℕ) (same : drop n w' ≡ drop n w) where
-  rest-kept : drop n (clearedN n w') ≡ drop n w
-  rest-kept = drop-at (replicate n 0) (drop n w') n (length-replicate n 0) ∙ same
+  -- The strips stood in front; there the list is cleared, and behind it is as before. That rest is lent and comes back.
+  module _ (w w' v : List ℕ) (least : ℕ) (lesser : least ≡ min np nq) (fits : 2 * np + np + nq + 2 * least ≤ length w)
+      (same : drop (2 * np) w' ≡ drop (2 * np) w) (zeroed : v ≡ clearedN (2 * np) w') where
+    front-zero : take (2 * np) v ≡ replicate (2 * np) 0
+    front-zero = rw zeroed (take-at (replicate (2 * np) 0) (drop (2 * np) w') (2 * np) (length-replicate (2 * np) 0))
 
-  lent-rest : take (length w - n) (drop n (clearedN n w')) ≡ drop n w
-  lent-rest = rw (rest-kept, ← length-drop n w) (take-length (drop n w))
+    rest-kept : drop (2 * np) v ≡ drop (2 * np) w
+    rest-kept = rw zeroed (drop-at (replicate (2 * np) 0) (drop (2 * np) w') (2 * np) (length-replicate (2 * np) 0)) ∙ same
 
-  rest-back : (l : List ℕ) → take n (clearedN n w') ++ (l ++ drop (length w - n) (drop n (clearedN n w'))) ≡ replicate n 0 ++ l
-  rest-back l =
-      rw (rest-kept, ← length-drop n w, drop-length (drop n w), append-nil l, take-at (replicate n 0) (drop n w') n (length-replicate n 0))
+    lent-rest : take (length v - 2 * np) (drop (2 * np) v) ≡ drop (2 * np) w
+    lent-rest = rw (← length-drop (2 * np) v) (take-length (drop (2 * np) v)) ∙ rest-kept
 
-module _ (points : List Float) (limit : ℕ) (predicted : List Float) (r2 : Float) (d : List Float) (ix w : List ℕ) where
-  -- the places where the strips stand
-  abbrev front : ℕ
-  front = stripRoom points limit
+    rest-back : (l : List ℕ) → take (2 * np) v ++ (l ++ drop (length v - 2 * np) (drop (2 * np) v)) ≡ replicate (2 * np) 0 ++ l
+    rest-back l = rw (← length-drop (2 * np) v, drop-length (drop (2 * np) v), append-nil l, front-zero)
 
-  pub too-short-for-strips : length w < front + needed points limit predicted → outcome Short d ix w ≡ greedyByStrips points limit predicted r2 d ix w
-  unfolding greedyByStrips
-  too-short-for-strips h = rw (lt-ltb _ _ h)
+    enough-behind : needed points limit predicted ≤ length (drop (2 * np) w)
+    enough-behind = rw (← spots, ← lesser, length-drop (2 * np) w) (omega arith)
 
-  module _ (fits : front + needed points limit predicted ≤ length w) where
-    -- behind the strips the same is left as by the call without strips
-    behind-front : (a : Matched) (d' : List Float) (ix' w' : List ℕ)
-        → outcome a d' ix' w' ≡ greedyUniqueMatches points limit predicted r2 d ix (drop front w)
-        → outcome a d' ix' (replicate front 0 ++ w') ≡ greedyByStrips points limit predicted r2 d ix w
-    unfolding greedyByStrips
-    behind-front a d' ix' w' e =
-        rw (le-ltb (length w) _ fits) (ap (λ (o : Outcome). outcome (o .answer) (o .distances) (o .indices) (replicate front 0 ++ o .work)) e)
+    pub enough-lent : np + nq + 2 * min np nq ≤ length (take (length v - 2 * np) (drop (2 * np) v))
+    enough-lent = rw lent-rest (rw (← spots) at enough-behind)
 
-    enough-behind : needed points limit predicted ≤ length (drop front w)
-    enough-behind = rw (length-drop front w) (omega arith)
-
-    module _ (r : ℕ) (d' : List Float) (ix' w' : List ℕ)
-        (did : Gathered (spotsWithin points limit) (capacity d ix) r2 points predicted d ix d' ix' r) (same : drop front w' ≡ drop front w) where
-      -- the places behind the front, as they are lent
-      abbrev lent : List ℕ
-      lent = take (length w - front) (drop front (clearedN front w'))
-
-      pub enough-lent : needed points limit predicted ≤ length lent
-      enough-lent = rw (lent-rest front w w' same) enough-behind
-
-      pub concluded-by-strips : (a : Matched) (e : List Float) (jx v : List ℕ)
-          → outcome a e jx v ≡ concluded (spotsWithin points limit) (length predicted / 2) (capacity d ix) r d' ix' lent
-          → outcome a e jx (take front (clearedN front w') ++ (v ++ drop (length w - front) (drop front (clearedN front w'))))
-          ≡ greedyByStrips points limit predicted r2 d ix w
-      concluded-by-strips a e jx v done =
-          rw (rest-back front w w' same v)
-          (behind-front a e jx v
-          (done ∙ rw (lent-rest front w w' same) (concluded-whole points limit predicted r2 d ix (drop front w) r d' ix' did enough-behind)))
+    pub answered-by-strips : (a : Matched) (e : List Float) (jx l : List ℕ)
+        → outcome a e jx l ≡ concluded np nq cap r d' ix' (take (length v - 2 * np) (drop (2 * np) v))
+        → outcome a e jx (take (2 * np) v ++ (l ++ drop (length v - 2 * np) (drop (2 * np) v))) ≡ greedyByStrips points limit predicted r2 d ix w
+    answered-by-strips a e jx l done =
+        let fits' : stripRoom points limit + needed points limit predicted ≤ length w = rw (← spots, ← lesser) (omega arith) in
+        let whole = (rw lent-rest at done) ∙ concluded-whole (drop (2 * np) w) enough-behind in
+        rw (rest-back l, spots) (behind-strips points limit predicted r2 d ix w fits' (outcome a e jx l) (rw spots at whole))

@@ -116,8 +116,7 @@ pub fn greedy_unique_matches_by_strips(
     let np = spots_within(points, max_points);
     let nq = predicted.len() / 2;
     let room = 2 * np;
-    let end = work.len();
-    if end < room + np + nq + 2 * lists::smaller(np, nq) {
+    if work.len() < room + np + nq + 2 * lists::smaller(np, nq) {
         return Matched::Short;
     }
     let cap = lists::smaller(distances.len() / 2, indices.len() / 4);
@@ -132,5 +131,5 @@ pub fn greedy_unique_matches_by_strips(
         work,
     );
     lists::clear_numbers(work, room);
-    concluded(np, nq, cap, m, distances, indices, &mut work[room..end])
+    concluded(np, nq, cap, m, distances, indices, &mut work[room..])
 }

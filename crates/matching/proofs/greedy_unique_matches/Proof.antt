@@ -1,7 +1,7 @@
 -- `greedy_unique_matches` meets its contract: a `work` list that is too short is answered first, and what follows the pairs is `concluded`'s.
-use mathlib.Core.Path.{_∙_}
 use native.Mathlib.Omega.{arith}
-use Rattle.matching.proofs.Whole.{in-turn, too-short, given, concluded-whole}
+use Rattle.matching.specs.Layout.{outcome}
+use Rattle.matching.proofs.Whole.{in-turn, too-short, given, answered}
 use borrow.Author.Needs.{needs}
 use Rattle.matching.proofs.greedy_unique_matches.Statement.{statement}
 use Rattle.matching.proofs.greedy_unique_matches.Tie as tie
@@ -27,7 +27,7 @@ returns c =
     let s1 = c .before .before .spots-within in
     let a = c .before .before .before .before .before .before .before .before .args in
     too-short (a .points .now) (a .max-points) (a .predicted .now) (a .radius-sq) (a .distances .now) (a .indices .now) (a .work .now)
-    (rw (s2 .ensures, s1 .ensures) at (c .if1 .taken))
+    (s1 .result) (s2 .result) (s1 .ensures) (s2 .ensures) (c .if1 .taken)
 
 smaller-requires-2 : tie.Need-smaller-requires-2
 smaller-requires-2 c κs = search needs
@@ -43,13 +43,15 @@ concluded-requires c κs =
     let s2 = q .before .smaller in
     let s1 = q .before .before .spots-within in
     let a = q .before .before .before .before .before .before .before .before .args in
-    let did = in-turn _ _ _ _ _ _ _ _ _ _ (rw (t .smaller2 .ensures, s1 .ensures) at (l .collect .ensures)) in (
+    let d' = l .collect .last .1 .1 .1 .1 .0 in
+    let ix' = l .collect .last .1 .1 .1 .1 .1 .0 in
+    let did = in-turn (s1 .result) (t .smaller2 .result) (a .radius-sq) (a .points .now) (a .predicted .now) (a .distances .now) (a .indices .now)
+    d' ix' (l .collect .result) (l .collect .ensures) in (
       omega (arith, t .smaller2 .ensures, l .collect .kept .1 .1 .1 .1 .0),
       omega (arith, t .smaller2 .ensures, l .collect .kept .1 .1 .1 .1 .1 .0),
       rw (← s2 .ensures) (q .if1 .left),
-      λ h. rw (s1 .ensures)
-          (given (a .points .now) (a .max-points) (a .predicted .now) (a .radius-sq) (a .distances .now) (a .indices .now) (a .work .now) _ _ _ did
-          (rw (t .smaller2 .ensures) at h)),
+      given (a .points .now) (a .max-points) (a .predicted .now) (a .radius-sq) (a .distances .now) (a .indices .now)
+          (s1 .result) (t .smaller2 .result) (s1 .ensures) (t .smaller2 .ensures) (l .collect .result) d' ix' did,
     )
 
 same-length : tie.Need-same-length
@@ -70,10 +72,15 @@ returns-2 c =
     let s2 = q .before .smaller in
     let s1 = q .before .before .spots-within in
     let a = q .before .before .before .before .before .before .before .before .args in
-    let did = in-turn _ _ _ _ _ _ _ _ _ _ (rw (t .smaller2 .ensures, s1 .ensures) at (l .collect .ensures)) in
-    (rw (t .smaller2 .ensures, s1 .ensures) at (u .concluded .ensures))
-    ∙ concluded-whole (a .points .now) (a .max-points) (a .predicted .now) (a .radius-sq) (a .distances .now) (a .indices .now) (a .work .now) _ _ _ did
-    (rw (s2 .ensures, s1 .ensures) at (q .if1 .left))
+    let d' = l .collect .last .1 .1 .1 .1 .0 in
+    let ix' = l .collect .last .1 .1 .1 .1 .1 .0 in
+    let did = in-turn (s1 .result) (t .smaller2 .result) (a .radius-sq) (a .points .now) (a .predicted .now) (a .distances .now) (a .indices .now)
+    d' ix' (l .collect .result) (l .collect .ensures) in
+    answered (a .points .now) (a .max-points) (a .predicted .now) (a .radius-sq) (a .distances .now) (a .indices .now)
+    (s1 .result) (t .smaller2 .result) (s1 .ensures) (t .smaller2 .ensures) (l .collect .result) d' ix' did
+    (a .work .now) (s2 .result) (s2 .ensures) (q .if1 .left)
+    (outcome (u .concluded .result) (u .concluded .last .1 .1 .1 .1 .0) (u .concluded .last .1 .1 .1 .1 .1 .0) (u .concluded .last .1 .1 .1 .1 .1 .1 .0))
+    (u .concluded .ensures)
 
 pub greedy-unique-matches-spec : {M : Type 1} → statement M
 greedy-unique-matches-spec =

@@ -1,7 +1,8 @@
 -- `greedy_unique_matches_by_strips` meets its contract: what was gathered by strips is what is gathered without them, in another order, and the part of
 -- `work` behind the strips' room is what the other call would have been given.
+use mathlib.Core.Path.{_∙_}
 use native.Mathlib.Omega.{arith}
-use Rattle.matching.proofs.Whole.{given, too-short-for-strips, enough-lent, concluded-by-strips}
+use Rattle.matching.proofs.Whole.{given, too-short-for-strips, enough-lent, answered-by-strips}
 use borrow.Author.Needs.{needs}
 use Rattle.matching.proofs.greedy_unique_matches_by_strips.Statement.{statement}
 use Rattle.matching.proofs.greedy_unique_matches_by_strips.Tie as tie
@@ -10,31 +11,30 @@ spots-within-requires : tie.Need-spots-within-requires
 spots-within-requires c κs = search needs
 
 mul-room : tie.Need-mul-room
-mul-room c = search needs
+mul-room c = omega arith
 
 add-if1 : tie.Need-add-if1
-add-if1 c = search needs
+add-if1 c = omega arith
 
 add-if1-2 : tie.Need-add-if1-2
-add-if1-2 c = search needs
+add-if1-2 c = omega arith
 
 smaller-requires : tie.Need-smaller-requires
 smaller-requires c κs = search needs
 
 mul-if1 : tie.Need-mul-if1
-mul-if1 c = search needs
+mul-if1 c = omega arith
 
 add-if1-3 : tie.Need-add-if1-3
-add-if1-3 c = search needs
+add-if1-3 c = omega arith
 
 returns : tie.Need-returns
 returns c =
     let s2 = c .before .smaller in
     let s1 = c .before .before .spots-within in
     let a = c .before .before .before .before .before .before .before .before .args in
-    let h = rw (s2 .ensures, s1 .ensures) at (c .if1 .taken) in
     too-short-for-strips (a .points .now) (a .max-points) (a .predicted .now) (a .radius-sq) (a .distances .now) (a .indices .now) (a .work .now)
-    (omega (arith, h))
+    (s1 .result) (s2 .result) (s1 .ensures) (s2 .ensures) (c .if1 .taken)
 
 smaller-requires-2 : tie.Need-smaller-requires-2
 smaller-requires-2 c κs = search needs
@@ -46,16 +46,16 @@ clear-numbers-requires : tie.Need-clear-numbers-requires
 clear-numbers-requires c κs = search needs
 
 mul-concluded : tie.Need-mul-concluded
-mul-concluded c = search needs
+mul-concluded c = omega arith
 
 sub-concluded : tie.Need-sub-concluded
-sub-concluded c = search needs
+sub-concluded c = omega arith
 
 part-concluded-start : tie.Need-part-concluded-start
-part-concluded-start c = search needs
+part-concluded-start c = omega arith
 
 part-concluded-end : tie.Need-part-concluded-end
-part-concluded-end c = search needs
+part-concluded-end c = omega arith
 
 concluded-requires : tie.Need-concluded-requires
 concluded-requires c κs =
@@ -66,27 +66,32 @@ concluded-requires c κs =
     let s2 = q .before .smaller in
     let s1 = q .before .before .spots-within in
     let a = q .before .before .before .before .before .before .before .before .args in
-    let h = rw (s2 .ensures, s1 .ensures) at (q .if1 .left) in
-    let did = rw (t .smaller2 .ensures, s1 .ensures) at (l .collect .ensures .0) in
-    let same = rw (s1 .ensures) at (l .collect .ensures .1) in (
+    let d' = l .collect .last .1 .1 .1 .1 .0 in
+    let ix' = l .collect .last .1 .1 .1 .1 .1 .0 in
+    let w' = l .collect .last .1 .1 .1 .1 .1 .1 .1 .0 in (
       omega (arith, t .smaller2 .ensures, l .collect .kept .1 .1 .1 .1 .0),
       omega (arith, t .smaller2 .ensures, l .collect .kept .1 .1 .1 .1 .1 .0),
-      rw (z .clear-numbers .ensures, s1 .ensures)
-          (enough-lent (a .points .now) (a .max-points) (a .predicted .now) (a .radius-sq) (a .distances .now) (a .indices .now) (a .work .now)
-          (omega (arith, h)) _ _ _ _ did same),
-      λ k. rw (s1 .ensures)
-          (given (a .points .now) (a .max-points) (a .predicted .now) (a .radius-sq) (a .distances .now) (a .indices .now) (a .work .now) _ _ _ did
-          (rw (t .smaller2 .ensures) at k)),
+      enough-lent (a .points .now) (a .max-points) (a .predicted .now) (a .radius-sq) (a .distances .now) (a .indices .now)
+          (s1 .result) (t .smaller2 .result) (s1 .ensures) (t .smaller2 .ensures) (l .collect .result) d' ix' (l .collect .ensures .0)
+          (a .work .now) w' (z .clear-numbers .last .0) (s2 .result) (s2 .ensures) (q .if1 .left) (l .collect .ensures .1) (z .clear-numbers .ensures),
+      given (a .points .now) (a .max-points) (a .predicted .now) (a .radius-sq) (a .distances .now) (a .indices .now)
+          (s1 .result) (t .smaller2 .result) (s1 .ensures) (t .smaller2 .ensures) (l .collect .result) d' ix' (l .collect .ensures .0),
     )
 
 same-length : tie.Need-same-length
-same-length c = search needs
+same-length c =
+    let u = c .before .before .before .before .before .before in
+    let l = u .before .before .before .before .before .before .before .before .before .before .before .before .before .before in
+    u .concluded .kept .1 .1 .1 .1 .0 ∙ l .collect .kept .1 .1 .1 .1 .0
 
 same-length-2 : tie.Need-same-length-2
-same-length-2 c = search needs
+same-length-2 c =
+    let u = c .before .before .before .before .before .before in
+    let l = u .before .before .before .before .before .before .before .before .before .before .before .before .before .before in
+    u .concluded .kept .1 .1 .1 .1 .1 .0 ∙ l .collect .kept .1 .1 .1 .1 .1 .0
 
 same-length-3 : tie.Need-same-length-3
-same-length-3 c = search needs
+same-length-3 c = omega arith
 
 returns-2 : tie.Need-returns-2
 returns-2 c =
@@ -98,12 +103,14 @@ returns-2 c =
     let s2 = q .before .smaller in
     let s1 = q .before .before .spots-within in
     let a = q .before .before .before .before .before .before .before .before .args in
-    let h = rw (s2 .ensures, s1 .ensures) at (q .if1 .left) in
-    let did = rw (t .smaller2 .ensures, s1 .ensures) at (l .collect .ensures .0) in
-    let same = rw (s1 .ensures) at (l .collect .ensures .1) in
-    rw (z .clear-numbers .ensures, s1 .ensures)
-    (concluded-by-strips (a .points .now) (a .max-points) (a .predicted .now) (a .radius-sq) (a .distances .now) (a .indices .now) (a .work .now)
-    (omega (arith, h)) _ _ _ _ did same _ _ _ _ (rw (z .clear-numbers .ensures, t .smaller2 .ensures, s1 .ensures) at (u .concluded .ensures)))
+    let d' = l .collect .last .1 .1 .1 .1 .0 in
+    let ix' = l .collect .last .1 .1 .1 .1 .1 .0 in
+    let w' = l .collect .last .1 .1 .1 .1 .1 .1 .1 .0 in
+    answered-by-strips (a .points .now) (a .max-points) (a .predicted .now) (a .radius-sq) (a .distances .now) (a .indices .now)
+    (s1 .result) (t .smaller2 .result) (s1 .ensures) (t .smaller2 .ensures) (l .collect .result) d' ix' (l .collect .ensures .0)
+    (a .work .now) w' (z .clear-numbers .last .0) (s2 .result) (s2 .ensures) (q .if1 .left) (l .collect .ensures .1) (z .clear-numbers .ensures)
+    (u .concluded .result) (u .concluded .last .1 .1 .1 .1 .0) (u .concluded .last .1 .1 .1 .1 .1 .0) (u .concluded .last .1 .1 .1 .1 .1 .1 .0)
+    (u .concluded .ensures)
 
 pub greedy-unique-matches-by-strips-spec : {M : Type 1} → statement M
 greedy-unique-matches-by-strips-spec =

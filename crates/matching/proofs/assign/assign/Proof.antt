@@ -1,5 +1,5 @@
 -- `assign` offers pairs in turn. The invariant: what was taken, with what is still to be offered, is what it is to be in the end.
-use mathlib.Core.Path.{_≡_, refl, sym, ap, _∙_}
+use mathlib.Core.Path.{_≡_, refl, _∙_}
 use mathlib.Core.List.{List}
 use Prim.Native.Nat.{ℕ, suc, _+_, _-_, _*_, _<_, _≤_}
 use native.Mathlib.Omega.{arith}
@@ -16,14 +16,14 @@ Inv-loop indices from m np marked work₀ t₀ i₀ work t i =
 abbrev μ-loop : tie.MeasureT-loop
 μ-loop indices from m np marked work₀ t₀ i₀ work t i = m - i
 
-offers-next : (np marked : ℕ) (ix : List ℕ) (from m i : ℕ) (s : Taking) → i < m
-    → offers np marked ix (from + i) (m - i) s
-    ≡ offers np marked ix (from + (i + 1)) (m - (i + 1)) (offered np marked s (getD ix (2 * (from + i)) 0) (getD ix (2 * (from + i) + 1) 0))
+-- one pair more was offered
+one-more : (np marked : ℕ) (ix : List ℕ) (from m i : ℕ) (s s' end : Taking) → i < m → offers np marked ix (from + i) (m - i) s ≡ end
+    → s' ≡ offered np marked s (getD ix (2 * (from + i)) 0) (getD ix (2 * (from + i) + 1) 0) → offers np marked ix (from + (i + 1)) (m - (i + 1)) s' ≡ end
 unfolding offers
-offers-next np marked ix from m i s h =
+one-more np marked ix from m i s s' end h inv did =
     let e : m - i ≡ suc (m - (i + 1)) = omega arith in
     let f : from + (i + 1) ≡ suc (from + i) = omega arith in
-    rw (e, f)
+    rw (f, did) (rw e at inv)
 
 ended : (np marked : ℕ) (ix : List ℕ) (from m i : ℕ) (s end : Taking) → m ≤ i → offers np marked ix (from + i) (m - i) s ≡ end → s ≡ end
 unfolding offers
@@ -83,9 +83,8 @@ loop-again c =
       r .kept .0 ∙ l .loop .inv .0,
       omega (arith, more),
       omega (arith, r .ensures .0, l .loop .inv .2),
-      ap (offers (a .np) (a .marked) (a .indices .now) (a .from + (l .loop .i + 1)) (a .m - (l .loop .i + 1))) (r .ensures .1)
-          ∙ sym (offers-next (a .np) (a .marked) (a .indices .now) (a .from) (a .m) (l .loop .i) (taking (l .loop .t) (l .loop .work)) more)
-          ∙ l .loop .inv .3,
+      one-more (a .np) (a .marked) (a .indices .now) (a .from) (a .m) (l .loop .i) (taking (l .loop .t) (l .loop .work)) (taking (r .result) (r .last .0)) _
+          more (l .loop .inv .3) (r .ensures .1),
     )
 
 same-length : tie.Need-same-length Inv-loop μ-loop
