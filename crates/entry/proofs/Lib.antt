@@ -1,3 +1,4 @@
 pub mod CallParts
 pub mod ListTests
 pub mod StartPoses
+pub mod Filled

@@ -1,7 +1,8 @@
-// What a refinement call does before its run: the checks on entry, and what is computed once from the arguments.
+// What a refinement call does around its run: the checks on entry, what is computed once from the arguments, and the zeroing of its lists.
 mod bounds; // bounds.rt: the bounds of refusals 6 to 9
 mod check; // check.rt: the checks on entry, refusals 5 to 11
 mod head; // head.rt: what a run computes once from its arguments
+mod clearing; // clearing.rt: the lent lists as a call leaves them
 
 pub use bounds::Component;
 pub use bounds::Coordinate;
@@ -12,6 +13,7 @@ pub use bounds::Rounds;
 pub use bounds::Scale;
 pub use bounds::Spots;
 pub use check::refusal_of;
+pub use clearing::clear_all;
 pub use head::farthest_of;
 pub use head::keep_r;
 pub use head::margin_px;

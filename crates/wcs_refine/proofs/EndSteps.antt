@@ -1,18 +1,13 @@
--- Lists that are set to zero, and that are laid over another's front, place by place. Assumes nothing.
+-- A list that is laid over another's front, place by place. Assumes nothing.
 use mathlib.Core.Path.{_≡_, sym, ap, _∙_}
-use mathlib.Core.List.{List, [], _∷_, _++_, append-nil}
+use mathlib.Core.List.{List, [], _∷_}
 use Prim.Native.Nat.{ℕ, _+_, _≤_, _<_}
 use native.Mathlib.Numerals.{add-one}
 use native.Mathlib.Omega.{arith}
-use lib.ListN.{length, getD, set, drop, replicate, drop-of-length-le}
+use lib.ListN.{length, getD, set, drop, drop-of-length-le}
 use lib.Seq.{drop-cons}
 use Rattle.query.specs.Listing.{fronted}
 use Rattle.query.proofs.Listed.{Writing, onward, front-push, front-whole}
-
-pub filled : {A : Type 0} (v : A) (i : ℕ) (o l : List A) → l ≡ replicate i v ++ drop i o → length o ≤ i → i ≤ length o → l ≡ replicate (length o) v
-filled v i o l e h k =
-    let n : i ≡ length o = omega arith in
-    e ∙ ap (λ (x : List _). replicate i v ++ x) (drop-of-length-le o h) ∙ append-nil (replicate i v) ∙ ap (λ (j : ℕ). replicate j v) n
 
 module _ (new o l : List ℕ) (i : ℕ) (w : Writing 0 i l o (drop i new) new) where
   pub lay-next : i < length new → i < length l → Writing 0 (i + 1) (set l i (getD new i 0)) o (drop (i + 1) new) new

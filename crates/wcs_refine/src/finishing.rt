@@ -3,13 +3,13 @@ ghost use mathlib.Core.Path.{_≡_};
 ghost use Prim.Native.Nat.{_*_, _%_, _≤_};
 ghost use lib.ListN.{length, take};
 ghost use Rattle.entry.specs.Entry.{fixedOf};
+ghost use Rattle.query.specs.Listing.{fronted};
 ghost use Rattle.wcs_refine.specs.Closing.{cleaned};
 ghost use Rattle.wcs_refine.specs.Ending.{Begun, concluded, Answered};
 use crate::WcsRefineResult;
 use crate::answering::accepted;
 use crate::answering::refused;
 use crate::cleaning::clean;
-use crate::clearing::lay_over;
 use crate::reporting::report;
 use crate::rounds::Ran;
 use entry::Settings;
@@ -18,6 +18,18 @@ use query::Held;
 
 // The refusal of a pose that leaves its bounds.
 const UNSOUND: usize = 12;
+
+// What stands after the front stays.
+fn lay_over(new: &[usize], l: &mut [usize])
+    requires { ⌜ length (now new) ≤ length (now l) ⌝ }
+    ensures { λ _. ⌜ now (l .exit) ≡ fronted (now (new .entry)) (now (l .entry)) ⌝ }
+{
+    let mut i: usize = 0;
+    while i < new.len() {
+        l[i] = new[i];
+        i += 1;
+    }
+}
 
 // The start pose and the starting matches; no query is cached yet.
 pub(crate) fn begin(

@@ -4,6 +4,7 @@ ghost use Rattle.entry.specs.Check.{refusal};
 ghost use Rattle.wcs_refine.specs.Call.{answer};
 ghost use Rattle.wcs_refine.specs.Ending.{Answered};
 ghost use Rattle.wcs_refine.specs.Returned.{lists, called, Answers};
+use entry::clear_all;
 use entry::refusal_of;
 use entry::settings_of;
 use fit::Pose;
@@ -20,7 +21,6 @@ mod comparing; // comparing.rt: whether new matches are the present ones
 mod searching; // searching.rt: a round's search
 mod answering; // answering.rt: the answer's values, by case
 mod rounds; // rounds.rt: one round, and the loop
-mod clearing; // clearing.rt: lists that are set to zero, or laid over another's front
 mod finishing; // finishing.rt: how the run begins, and the closing that follows it
 
 // The answer: the number of a refusal, or 0 and a pose. Beside the pose: how many matches stand in the result list, the rounds, fit passes and
@@ -142,6 +142,6 @@ pub fn wcs_refine(
         indices,
         result,
     );
-    clearing::clear_all(numbers, floats, distances, indices);
+    clear_all(numbers, floats, distances, indices);
     r
 }

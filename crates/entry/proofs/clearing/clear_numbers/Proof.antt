@@ -4,10 +4,10 @@ use mathlib.Core.List.{_++_}
 use Prim.Native.Nat.{_≤_, _-_}
 use lib.ListN.{length, drop, replicate}
 use Rattle.matching.proofs.Fronts.{fill-step}
-use Rattle.wcs_refine.proofs.EndSteps.{filled}
+use Rattle.entry.proofs.Filled.{filled}
 use borrow.Author.Needs.{needs}
-use Rattle.wcs_refine.proofs.clearing.clear_numbers.Statement.{statement}
-use Rattle.wcs_refine.proofs.clearing.clear_numbers.Tie as tie
+use Rattle.entry.proofs.clearing.clear_numbers.Statement.{statement}
+use Rattle.entry.proofs.clearing.clear_numbers.Tie as tie
 
 abbrev Inv-loop : tie.InvT-loop
 Inv-loop l₀ i₀ l i = (length l ≡ length l₀) × (i ≤ length l₀) × (l ≡ replicate i 0 ++ drop i l₀)

@@ -1,11 +1,9 @@
-// Lists that are set to zero whole, and a list that is laid over another's front.
+// The lent lists as a call leaves them: set to zero, whole.
 ghost use mathlib.Core.Path.{_≡_};
-ghost use Prim.Native.Nat.{_≤_};
 ghost use lib.ListN.{length, replicate};
 ghost use Rattle.rounding.specs.Arith.{zero64};
-ghost use Rattle.query.specs.Listing.{fronted};
 
-pub(crate) fn clear_numbers(l: &mut [usize])
+fn clear_numbers(l: &mut [usize])
     ensures { λ _. ⌜ now (l .exit) ≡ replicate (length (now (l .entry))) 0 ⌝ }
 {
     let mut i: usize = 0;
@@ -15,7 +13,7 @@ pub(crate) fn clear_numbers(l: &mut [usize])
     }
 }
 
-pub(crate) fn clear_floats(l: &mut [f64])
+fn clear_floats(l: &mut [f64])
     ensures { λ _. ⌜ now (l .exit) ≡ replicate (length (now (l .entry))) zero64 ⌝ }
 {
     let mut i: usize = 0;
@@ -26,7 +24,7 @@ pub(crate) fn clear_floats(l: &mut [f64])
 }
 
 // The working lists and the candidate lists of a call, to their ends.
-pub(crate) fn clear_all(
+pub fn clear_all(
     numbers: &mut [usize],
     floats: &mut [f64],
     distances: &mut [f64],
@@ -38,16 +36,4 @@ pub(crate) fn clear_all(
     clear_floats(floats);
     clear_floats(distances);
     clear_numbers(indices);
-}
-
-// What stands after the front stays.
-pub(crate) fn lay_over(new: &[usize], l: &mut [usize])
-    requires { ⌜ length (now new) ≤ length (now l) ⌝ }
-    ensures { λ _. ⌜ now (l .exit) ≡ fronted (now (new .entry)) (now (l .entry)) ⌝ }
-{
-    let mut i: usize = 0;
-    while i < new.len() {
-        l[i] = new[i];
-        i += 1;
-    }
 }

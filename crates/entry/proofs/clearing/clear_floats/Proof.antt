@@ -5,10 +5,10 @@ use Prim.Native.Nat.{_≤_, _-_}
 use lib.ListN.{length, drop, replicate}
 use Rattle.rounding.specs.Arith.{zero64}
 use Rattle.matching.proofs.Fronts.{fill-step}
-use Rattle.wcs_refine.proofs.EndSteps.{filled}
+use Rattle.entry.proofs.Filled.{filled}
 use borrow.Author.Needs.{needs}
-use Rattle.wcs_refine.proofs.clearing.clear_floats.Statement.{statement}
-use Rattle.wcs_refine.proofs.clearing.clear_floats.Tie as tie
+use Rattle.entry.proofs.clearing.clear_floats.Statement.{statement}
+use Rattle.entry.proofs.clearing.clear_floats.Tie as tie
 
 abbrev Inv-loop : tie.InvT-loop
 Inv-loop l₀ i₀ l i = (length l ≡ length l₀) × (i ≤ length l₀) × (l ≡ replicate i zero64 ++ drop i l₀)

@@ -1,12 +1,12 @@
--- `clearing::lay_over` meets its contract. The invariant: what is laid so far stands at the front, and with the rest it is all. Assumes nothing.
+-- `finishing::lay_over` meets its contract. The invariant: what is laid so far stands at the front, and with the rest it is all. Assumes nothing.
 use mathlib.Core.Path.{_≡_}
 use Prim.Native.Nat.{_≤_, _-_}
 use lib.ListN.{length, drop}
 use Rattle.query.proofs.Listed.{Writing, begin}
 use Rattle.wcs_refine.proofs.EndSteps.{lay-next, lay-done}
 use borrow.Author.Needs.{needs}
-use Rattle.wcs_refine.proofs.clearing.lay_over.Statement.{statement}
-use Rattle.wcs_refine.proofs.clearing.lay_over.Tie as tie
+use Rattle.wcs_refine.proofs.finishing.lay_over.Statement.{statement}
+use Rattle.wcs_refine.proofs.finishing.lay_over.Tie as tie
 
 abbrev Inv-loop : tie.InvT-loop
 Inv-loop new l₀ i₀ l i = (length l ≡ length l₀) × (i ≤ length new) × Writing 0 i l l₀ (drop i new) new
