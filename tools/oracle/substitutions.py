@@ -17,6 +17,11 @@ HASHES = {
     "starcatalog.rs": "a0b075020de9a051a5a7d6f4d20d9b49eea9e2644261f5c4045837284f47da0e",
 }
 
+# Built a second time under another name, with only the substitutions of that
+# name: the statistics with the reference's own order of NaNs.
+PLAIN_STATS = "plain_stats.rs"
+COPIES = {PLAIN_STATS: "stats.rs"}
+
 # Of solve.rs only this stretch is taken: StarVectors and what it stands on.
 STAR_VECTORS = ("/// Speed of light in km/s.", "// ── Solve entry point ──")
 
@@ -74,5 +79,6 @@ SUBSTITUTIONS = [
     (REFINE, "\nfn ", "\npub fn ", 13),
     (MATCHING, "pub(super) ", "pub ", 5),
     (STATS, "pub(crate) ", "pub ", 2),
+    (PLAIN_STATS, "pub(crate) ", "pub ", 2),
     (SOLVE, "pub(crate) ", "pub ", 4),
 ]

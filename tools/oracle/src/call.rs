@@ -129,8 +129,22 @@ impl Prepared {
 
     /// The reference's run, or refusal 12 or 13.
     pub fn run(&self, traced: bool) -> Result<Answer, u8> {
-        profiling::reset();
         hooks::begin(self.pairs, traced);
+        self.ended().map_err(|thrown| match thrown.downcast::<Refused>() {
+            Ok(refused) => refused.0,
+            Err(fault) => resume_unwind(fault),
+        })
+    }
+
+    /// The reference's run to its own end, or its panic: no refusal leaves it.
+    pub fn run_unrefused(&self) -> std::thread::Result<Answer> {
+        hooks::begin_unrefused();
+        self.ended()
+    }
+
+    /// A run that has been begun, to its end or to what it throws.
+    fn ended(&self) -> std::thread::Result<Answer> {
+        profiling::reset();
         scan::use_cells(self.by_cells);
         let run = || {
             wcs_refine(
@@ -148,13 +162,7 @@ impl Prepared {
         };
         let ended = catch_unwind(AssertUnwindSafe(run));
         hooks::end();
-        match ended {
-            Ok(result) => Ok(Answer { result, counts: profiling::counts() }),
-            Err(thrown) => match thrown.downcast::<Refused>() {
-                Ok(refused) => Err(refused.0),
-                Err(fault) => resume_unwind(fault),
-            },
-        }
+        ended.map(|result| Answer { result, counts: profiling::counts() })
     }
 }
 

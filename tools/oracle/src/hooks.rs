@@ -29,6 +29,7 @@ pub struct Trace {
 
 thread_local! {
     static PAIRS: Cell<usize> = const { Cell::new(usize::MAX) };
+    static BOUNDED: Cell<bool> = const { Cell::new(true) };
     static TRACE: Cell<Option<Trace>> = const { Cell::new(None) };
 }
 
@@ -38,9 +39,16 @@ pub fn begin(pairs: usize, traced: bool) {
     TRACE.set(traced.then(Trace::default));
 }
 
+/// Before a run that no refusal may leave: any number of pairs, any angle.
+pub fn begin_unrefused() {
+    begin(usize::MAX, false);
+    BOUNDED.set(false);
+}
+
 /// After a run: the matcher by itself may hold any number of pairs.
 pub fn end() {
     PAIRS.set(usize::MAX);
+    BOUNDED.set(true);
 }
 
 /// The notes of the last run that was begun with them.
@@ -50,6 +58,9 @@ pub fn trace() -> Trace {
 
 /// Refusal 12, after an update.
 pub fn moved(theta: f64, ra: f64, dec: f64) {
+    if !BOUNDED.get() {
+        return;
+    }
     let out = |angle: &f64| !(angle.abs() <= GREATEST_ANGLE);
     if let Some(at) = [theta, ra, dec].iter().position(out) {
         note_with(|t| {

@@ -2,7 +2,8 @@
 //! call it by record, by lists or function by function.
 //!
 //! `solver/wcs_refine.rs`, `solver/matching.rs`, `solver/solve.rs`, `stats.rs`
-//! and `starcatalog.rs` are put beside these files by `build`.
+//! and `starcatalog.rs` are put beside these files by `build`, and `stats.rs`
+//! once more as `plain_stats.rs`, with the order of NaNs that it came with.
 
 /// The reference's log lines: their text is noted, their values are not.
 macro_rules! debug {
@@ -23,6 +24,7 @@ pub mod answer;
 pub mod call;
 pub mod hooks;
 pub mod order;
+pub mod plain_stats;
 pub mod record;
 pub mod scan;
 #[allow(dead_code)]

@@ -2,8 +2,12 @@
 
 mod bench;
 mod cells;
+mod differences;
 mod eval;
 mod evaluated;
+#[allow(dead_code)]
+#[path = "compare/exposure.rs"]
+mod exposure;
 #[allow(dead_code)]
 #[path = "compare/rng.rs"]
 mod rng;
@@ -26,6 +30,7 @@ oracle full [many] [..]    the call at its full limits, records of any length:
     --cells NSIDE                       the reference's own cells, not the scan
 oracle eval                single functions, by bits
 oracle cells [..]          directions that the reference's cells lose
+oracle differences         what the reference does where docs/DIFFERENCES.md says that new and old differ
 oracle bench               times of the run, the matcher and the median";
 
 /// The call without the program's small lists.
@@ -50,6 +55,7 @@ fn main() {
         }
         ["eval"] => eval::lines_of(io::stdin().lock(), &mut BufWriter::new(io::stdout().lock())),
         ["cells", options @ ..] => cells::main(options),
+        ["differences"] => differences::main(),
         ["bench"] => bench::main(&all_records()),
         _ => usage(),
     }
