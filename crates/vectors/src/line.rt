@@ -3,6 +3,7 @@ use crate::fitting;
 use crate::geometry;
 use crate::matrices;
 use crate::pairing;
+use crate::querying;
 use crate::sampling;
 use crate::say;
 use crate::scalar;
@@ -82,6 +83,10 @@ fn answer(name: &[u8], a: &[usize], e: &[usize]) -> usize {
         return k;
     }
     let k = sampling::answer(name, a, e);
+    if k < NEVER {
+        return k;
+    }
+    let k = querying::answer(name, a, e);
     if k < NEVER {
         return k;
     }

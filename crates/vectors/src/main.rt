@@ -8,6 +8,7 @@ mod line;
 mod list;
 mod matrices;
 mod pairing;
+mod querying;
 mod sampling;
 mod scalar;
 mod word;
@@ -21,6 +22,7 @@ fn main() {
     each_file(b"tan_project.txt inverse_tan_project.txt rotations.txt wcs_to_rotation.txt");
     each_file(b"vectors.txt solve_3x3.txt covariance.txt");
     each_file(b"accumulate.txt fits.txt residuals.txt clips.txt");
+    each_file(b"axis.txt query.txt");
 }
 
 // The files whose names these are, with spaces between them.

@@ -78,7 +78,7 @@ fn same_row(e: &[usize], i: usize, v: [f64; 3]) -> usize {
     same64(e, same_pair(e, i, v[0], v[1]), v[2])
 }
 
-fn same_row32(e: &[usize], i: usize, v: [f32; 3]) -> usize {
+pub(crate) fn same_row32(e: &[usize], i: usize, v: [f32; 3]) -> usize {
     same32(e, same32(e, same32(e, i, v[0]), v[1]), v[2])
 }
 

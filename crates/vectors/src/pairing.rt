@@ -1,5 +1,5 @@
-// The matcher, by name. The numbers are the limit, the squared radius, spots, and predictions with their directions, each list after its count;
-// `within_capacity` has the lengths of the candidate lists before them.
+// The matcher, by name, in its plain form and by strips. The numbers are the limit, the squared radius, spots, and predictions with their
+// directions, each list after its count; `within_capacity` has the lengths of the candidate lists before them.
 ghost use Prim.Native.Nat.{_≤_};
 use crate::list::at_most;
 use crate::list::count_at;
@@ -26,19 +26,38 @@ fn within_capacity(a: &[usize], e: &[usize]) -> usize {
     called(&a[2..], at_most(a, 0, 1024), at_most(a, 1, 2048), true, e)
 }
 
-// With candidate lists of d distances and i indices. As an option the answer is 1 and the matches, or 0 where there are too many pairs.
+// With candidate lists of d distances and i indices. Both forms have to come to the same.
 fn called(a: &[usize], d: usize, i: usize, option: bool, e: &[usize]) -> usize
+    requires { ⌜ (d ≤ 1024) × (i ≤ 2048) ⌝ }
+{
+    let plain = formed(a, d, i, false, option, e);
+    let strips = formed(a, d, i, true, option, e);
+    if plain == strips { plain } else { NEVER }
+}
+
+// By strips there are two places for each spot before the marks.
+fn places_before(strips: bool, spots: usize) -> usize
+    requires { ⌜ spots ≤ 32 ⌝ }
+    ensures { λ r. ⌜ r ≤ 64 ⌝ }
+{
+    if strips { 2 * spots } else { 0 }
+}
+
+// As an option the answer is 1 and the matches, or 0 where there are too many pairs.
+fn formed(a: &[usize], d: usize, i: usize, strips: bool, option: bool, e: &[usize]) -> usize
     requires { ⌜ (d ≤ 1024) × (i ≤ 2048) ⌝ }
 {
     let s = 2 * count_at(a, 2);
     let q = 2 * count_at(a, 3 + s);
-    let marks = at_most(a, 0, s / 2) + q / 2;
+    let within = at_most(a, 0, s / 2);
+    let start = places_before(strips, within) + within + q / 2;
     let mut spots = [0.0f64; 64];
     floats(a, 3, 1, &mut spots);
     let mut predicted = [0.0f64; 64];
     points(a, 5 + s, &mut predicted);
-    let mut work = [0usize; 128];
+    let mut work = [0usize; 192];
     let m = matched(
+        strips,
         &spots[0..s],
         at(a, 0),
         &predicted[0..q],
@@ -47,7 +66,7 @@ fn called(a: &[usize], d: usize, i: usize, option: bool, e: &[usize]) -> usize
         i,
         &mut work,
     );
-    report(m, option, a, 4 + s, &work, marks, e)
+    report(m, option, a, 4 + s, &work, start, e)
 }
 
 // The points of predictions, x and y before each direction but the first, until the list is full.
@@ -63,6 +82,7 @@ fn points(a: &[usize], from: usize, out: &mut [f64]) {
 
 // The matches stand in the work list after its marks.
 fn matched(
+    strips: bool,
     spots: &[f64],
     limit: usize,
     predicted: &[f64],
@@ -75,6 +95,17 @@ fn matched(
 {
     let mut distances = [0.0f64; 1024];
     let mut indices = [0usize; 2048];
+    if strips {
+        return matching::greedy_unique_matches_by_strips(
+            spots,
+            limit,
+            predicted,
+            r2,
+            &mut distances[0..d],
+            &mut indices[0..i],
+            work,
+        );
+    }
     matching::greedy_unique_matches(
         spots,
         limit,
