@@ -29,10 +29,10 @@ const FAR_TURN: &str = "\
     A48CE00BEFA48CDC03808080FC03EFA48CD803D8F2D0E103";
 const EVER_OTHER: &str = "\
     0501050180808080808080C83F808080F803044000808080FC03000000808080FC03808080FC030000808080808080\
-    808A408080808080808080C00180808080808080804080808080808080F8BF0180808080808080884080808080808080\
-    F83F80808080808080F83F8080808080808080C0018080808080808080C0018080808080808080400000808080FC03\
-    96EFE5EC03C3DFD6E80B808080FC038097A4E80389C1AFE40BCEB2B1CC028DF79FFC03BDFDB0E203EDF3A1A0039BF0\
-    9C8703FCD0B88C0BA6E4A99103A582DFFC0AE4DB94FD02";
+    808A408080808080808080C00180808080808080804080808080808080F8BF01808080808080808840808080808080\
+    80F83F80808080808080F83F8080808080808080C0018080808080808080C0018080808080808080400000808080FC\
+    0396EFE5EC03C3DFD6E80B808080FC038097A4E80389C1AFE40BCEB2B1CC028DF79FFC03BDFDB0E203EDF3A1A0039B\
+    F09C8703FCD0B88C0BA6E4A99103A582DFFC0AE4DB94FD02";
 
 /// Lists of any length.
 const ANY: Lent = Lent {
@@ -146,8 +146,9 @@ fn call(name: &str, about: &str, e: &Exposure) {
 
 /// The numbers of a call's record, in their order.
 fn numbers(e: &Exposure) -> Vec<u64> {
-    let [spots, matches, directions] = [e.spots.len() / 2, e.matches.len() / 2, e.directions.len() / 3];
-    let mut all = vec![spots as u64, matches as u64, directions as u64, e.mirror as u64];
+    let counts = [e.spots.len() / 2, e.matches.len() / 2, e.directions.len() / 3];
+    let mut all: Vec<u64> = counts.iter().map(|&n| n as u64).collect();
+    all.push(e.mirror as u64);
     all.extend([e.scale.to_bits(), e.radius.to_bits() as u64, e.limit as u64, e.rounds]);
     all.extend(e.rotation.iter().map(|x| x.to_bits() as u64));
     all.extend(e.spots.iter().map(|x| x.to_bits()));
@@ -162,7 +163,8 @@ fn ran(e: &Exposure) -> String {
         Prepared::new(e, &ANY).run_unrefused().unwrap_or_else(|fault| resume_unwind(fault));
     let [ra, dec] = result.crval_rad;
     let pose = [result.theta_rad, ra, dec, result.pixel_scale].map(|x| format!("{:016X}", bits(x)));
-    let last = result.matches.last().map_or(String::new(), |(s, d)| format!(", last match {s} {d}"));
+    let last = |(s, d): &(usize, usize)| format!(", last match {s} {d}");
+    let last = result.matches.last().map_or(String::new(), last);
     let count = result.matches.len();
     format!("ok {count} {rounds} {passes} {queries}, pose {}{last}", pose.join(" "))
 }
@@ -190,7 +192,8 @@ fn more_than_refusal_6_has() {
     call("too-many", "65 rounds, ", &Exposure { rounds: 65, ..recorded(EVER_OTHER) });
     let one = Exposure { spots: vec![0.0; 2], directions: vec![0.0, 0.0, 1.0], ..ahead() };
     let spots = Exposure { spots: vec![0.0; 2 * 4_097], matches: vec![4_096, 0], ..one.clone() };
-    row("too-many", "4097 spots 0000000000000000 0000000000000000, match (4096, 0)", || ran(&spots));
+    let input = format!("4097 spots {}, match (4096, 0)", raw(&[0.0; 2]));
+    row("too-many", &input, || ran(&spots));
     let matches = Exposure { matches: vec![0; 2 * 4_097], ..one.clone() };
     row("too-many", "4097 matches (0, 0)", || ran(&matches));
     let directions =
@@ -200,8 +203,9 @@ fn more_than_refusal_6_has() {
 }
 
 fn numbers_of_directions() {
-    let input = format!("greedy_unique_matches, spot {0}, prediction of direction 7 {0}", raw(&[0.0; 2]));
-    row("direction-number", &format!("{input}, squared radius {}", raw(&[1.0])), || {
+    let [origin, one] = [raw(&[0.0; 2]), raw(&[1.0])];
+    let points = format!("spot {origin}, prediction of direction 7 {origin}, squared radius {one}");
+    row("direction-number", &format!("greedy_unique_matches, {points}"), || {
         let mut scratch = MatchScratch::default();
         let matches = greedy_unique_matches(&[(0.0, 0.0)], 1, &[(7, 0.0, 0.0)], 1.0, &mut scratch);
         format!("matches {matches:?}")

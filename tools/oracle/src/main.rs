@@ -30,7 +30,7 @@ oracle full [many] [..]    the call at its full limits, records of any length:
     --cells NSIDE                       the reference's own cells, not the scan
 oracle eval                single functions, by bits
 oracle cells [..]          directions that the reference's cells lose
-oracle differences         what the reference does where docs/DIFFERENCES.md says that new and old differ
+oracle differences         what the reference does on the rows of docs/DIFFERENCES.md
 oracle bench               times of the run, the matcher and the median";
 
 /// The call without the program's small lists.
