@@ -12,7 +12,7 @@ use Rattle.rounding.specs.Narrow.{narrowed}
 use Rattle.rounding.specs.Methods.{absF, isFinite, totalKey, totalLe}
 use Rattle.stats.specs.Median.{medianMadSigma, middle, sorted, insert, deviations, madScale}
 use Rattle.stats.specs.declared.MedianSigma.{MedianSigma}
-use Rattle.matching.specs.Pairs.{pairs, pairsFrom, pairsOf, within, squared, pointAt}
+use Rattle.pairs.specs.Pairs.{pairs, pairsFrom, pairsOf, within, squared, pointAt}
 use Rattle.matching.specs.Merge.{merged, mergeRuns, mergeNeighbours, merge, into, singles, notAfter}
 use Rattle.matching.specs.Greedy.{matchesOf, assigned, clashes, Match}
 use Rattle.solve.specs.Solve.{solve3x3, solvedFrom, substituted, divides, ifFinite, solutionX, solutionY, solutionZ, eliminated, reduced, minusFrom, swapped, usable, pivotOf, bestFrom, better, beside}

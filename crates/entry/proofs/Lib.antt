@@ -1,4 +1,3 @@
 pub mod CallParts
 pub mod ListTests
 pub mod StartPoses
-pub mod Filled

@@ -10,7 +10,7 @@ use Rattle.rounding.specs.Root.{root}
 use Rattle.rounding.specs.Methods.{maxF, clampF}
 use Rattle.angles.specs.SinCos.{cos}
 use Rattle.angles.specs.Inverse.{asin, atan2}
-use Rattle.matching.specs.Greedy.{capacity}
+use Rattle.pairs.specs.Candidates.{capacity}
 use Rattle.solve.specs.Constants.{planeCut, minusOne, two, clipNsigma}
 use Rattle.solve.specs.Vector.{row, entry, dot}
 use Rattle.project.specs.Camera.{east, north}

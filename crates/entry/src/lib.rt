@@ -1,6 +1,6 @@
 // What a refinement call does around its run: the checks on entry, what is computed once from the arguments, and the zeroing of its lists.
 mod bounds; // bounds.rt: the bounds of refusals 6 to 9
-mod check; // check.rt: the checks on entry, refusals 5 to 11
+mod refusals; // refusals.rt: the checks on entry, refusals 5 to 11
 mod head; // head.rt: what a run computes once from its arguments
 mod clearing; // clearing.rt: the lent lists as a call leaves them
 
@@ -12,7 +12,6 @@ pub use bounds::Radius;
 pub use bounds::Rounds;
 pub use bounds::Scale;
 pub use bounds::Spots;
-pub use check::refusal_of;
 pub use clearing::clear_all;
 pub use head::farthest_of;
 pub use head::keep_r;
@@ -25,6 +24,7 @@ pub use head::search_radius;
 pub use head::settings_of;
 pub use head::start_pose;
 pub use head::theta_margin;
+pub use refusals::refusal_of;
 
 // All that the rounds read beside spots, directions and their state: `count` directions, and room for `capacity` pairs.
 pub struct Settings {

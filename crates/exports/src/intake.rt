@@ -8,8 +8,8 @@ ghost use lib.Ieee.{nan};
 ghost use Rattle.record.specs.Header.{readRecord};
 ghost use Rattle.exports.specs.Refined.{setFrom};
 ghost use Rattle.exports.specs.Taken.{choices, measures, entries, TakenTo};
-use crate::lists::put;
-use crate::refine::put_count;
+use lists::put_float;
+use lists::put_number;
 use record::Header;
 
 fn put_single(l: &mut [f32], i: usize, x: f32)
@@ -39,20 +39,20 @@ fn number_of(mirror: bool) -> usize
 fn put_choices(l: &mut [usize], h: Header)
     ensures { λ _. ⌜ now (l .exit) ≡ setFrom 0 (choices h) (now (l .entry)) ⌝ }
 {
-    put_count(l, 0, h.spots);
-    put_count(l, 1, h.matches);
-    put_count(l, 2, h.directions);
-    put_count(l, 3, number_of(h.mirror));
-    put_count(l, 4, h.limit);
-    put_count(l, 5, h.rounds);
+    put_number(l, 0, h.spots);
+    put_number(l, 1, h.matches);
+    put_number(l, 2, h.directions);
+    put_number(l, 3, number_of(h.mirror));
+    put_number(l, 4, h.limit);
+    put_number(l, 5, h.rounds);
 }
 
 // The scale, and the radius as an f64 has it.
 fn put_measures(l: &mut [f64], h: Header)
     ensures { λ _. ⌜ now (l .exit) ≡ setFrom 0 (measures h) (now (l .entry)) ⌝ }
 {
-    put(l, 0, h.scale);
-    put(l, 1, rounding::widen(h.radius));
+    put_float(l, 0, h.scale);
+    put_float(l, 1, rounding::widen(h.radius));
 }
 
 fn put_rotation(l: &mut [f32], h: Header)

@@ -1,5 +1,5 @@
 // The functions for C and Rust to link (`rt staticlib exports`). Each hands its arguments to the function of the same name and promises the same.
-mod lists; // lists.rt: the functions over lists
+mod parts; // parts.rt: the median and the matcher
 mod refine; // refine.rt: the refinement call
 mod intake; // intake.rt: the record reader
 

@@ -5,8 +5,9 @@ ghost use lib.ListN.{set, getD};
 ghost use lib.Ieee.{nan};
 ghost use Rattle.wcs_refine.specs.Returned.{lists, called};
 ghost use Rattle.exports.specs.Refined.{rowsOf, counts, values, setFrom, RefinedTo};
-use crate::lists::put;
 use fit::Pose;
+use lists::put_float;
+use lists::put_number;
 use wcs_refine::WcsRefineResult;
 
 // The rotation's entry at a place; a place that the list lacks is no number, and refused as such.
@@ -29,50 +30,41 @@ fn row_at(rotation: &[f32], i: usize, j: usize, k: usize) -> [f32; 3]
     [x, y, z]
 }
 
-// A write past the end of a list is left out.
-pub(crate) fn put_count(l: &mut [usize], i: usize, x: usize)
-    ensures { λ _. ⌜ now (l .exit) ≡ set (now (l .entry)) i x ⌝ }
-{
-    if i < l.len() {
-        l[i] = x;
-    }
-}
-
 // Matches, rounds, passes, queries.
 fn put_counts(l: &mut [usize], r: WcsRefineResult)
     ensures { λ _. ⌜ now (l .exit) ≡ setFrom 0 (counts r) (now (l .entry)) ⌝ }
 {
-    put_count(l, 0, r.matches);
-    put_count(l, 1, r.rounds);
-    put_count(l, 2, r.passes);
-    put_count(l, 3, r.queries);
+    put_number(l, 0, r.matches);
+    put_number(l, 1, r.rounds);
+    put_number(l, 2, r.passes);
+    put_number(l, 3, r.queries);
 }
 
 // Theta, RA, Dec, scale: the first four places.
 fn put_pose(l: &mut [f64], p: Pose)
     ensures { λ _. ⌜ now (l .exit) ≡ set (set (set (set (now (l .entry)) 0 (p .theta)) 1 (p .ra)) 2 (p .dec)) 3 (p .scale) ⌝ }
 {
-    put(l, 0, p.theta);
-    put(l, 1, p.ra);
-    put(l, 2, p.dec);
-    put(l, 3, p.scale);
+    put_float(l, 0, p.theta);
+    put_float(l, 1, p.ra);
+    put_float(l, 2, p.dec);
+    put_float(l, 3, p.scale);
 }
 
 // A row of the matrix, to two places.
 fn put_two(l: &mut [f64], i: usize, j: usize, v: [f64; 2])
     ensures { λ _. ⌜ now (l .exit) ≡ set (set (now (l .entry)) i (getD v 0 nan)) j (getD v 1 nan) ⌝ }
 {
-    put(l, i, v[0]);
-    put(l, j, v[1]);
+    put_float(l, i, v[0]);
+    put_float(l, j, v[1]);
 }
 
 // A row of the covariance, to three places.
 fn put_three(l: &mut [f64], i: usize, j: usize, k: usize, v: [f64; 3])
     ensures { λ _. ⌜ now (l .exit) ≡ set (set (set (now (l .entry)) i (getD v 0 nan)) j (getD v 1 nan)) k (getD v 2 nan) ⌝ }
 {
-    put(l, i, v[0]);
-    put(l, j, v[1]);
-    put(l, k, v[2]);
+    put_float(l, i, v[0]);
+    put_float(l, j, v[1]);
+    put_float(l, k, v[2]);
 }
 
 // Theta, RA, Dec, scale; the matrix by rows; the error; the covariance by rows.
@@ -88,7 +80,7 @@ fn put_values(l: &mut [f64], r: WcsRefineResult)
     put_pose(l, p);
     put_two(l, 4, 5, cd0);
     put_two(l, 6, 7, cd1);
-    put(l, 8, r.rmse_rad);
+    put_float(l, 8, r.rmse_rad);
     put_three(l, 9, 10, 11, cov0);
     put_three(l, 12, 13, 14, cov1);
     put_three(l, 15, 16, 17, cov2);

@@ -2,8 +2,8 @@
 ghost use mathlib.Core.Path.{_≡_};
 ghost use mathlib.Core.Bool.{cond};
 ghost use mathlib.Core.List.{List, _++_};
-ghost use Prim.Native.Nat.{_+_, _*_, _≤_, min};
-ghost use lib.ListN.{length, set, take, drop};
+ghost use Prim.Native.Nat.{_+_, _*_, _≤_};
+ghost use lib.ListN.{length, take, drop};
 ghost use lib.Ieee.{Float, eq};
 ghost use Rattle.solve.specs.Constants.{minusOne};
 ghost use Rattle.fit.specs.Rows.{rows, rowOf, viewOf, viewAt};
@@ -15,6 +15,8 @@ use crate::Turn;
 use crate::rows::direction_at;
 use crate::rows::spot_at;
 use crate::rows::turn_of;
+use lists::put_float;
+use lists::smaller;
 use project::Projected;
 use project::predict_tanplane;
 use project::tan_basis;
@@ -51,15 +53,6 @@ fn in_front(x: f64) -> usize
     if x == NO_RESIDUAL { 0 } else { 1 }
 }
 
-// Written where the list has the place.
-fn put(l: &mut [f64], i: usize, x: f64)
-    ensures { λ _. ⌜ now (l .exit) ≡ set (now (l .entry)) i x ⌝ }
-{
-    if i < l.len() {
-        l[i] = x;
-    }
-}
-
 // The residuals of all matches, with the basis and the turn given.
 fn residuals(
     matches: &[usize],
@@ -78,7 +71,7 @@ fn residuals(
         let c = spot_at(spots, matches[2 * i]);
         let d = direction_at(directions, matches[2 * i + 1]);
         let x = residual_of(basis, t, c, d);
-        put(out, i, x);
+        put_float(out, i, x);
         count += in_front(x);
         i += 1;
     }
@@ -100,12 +93,6 @@ pub fn compute_residuals(
     let basis = tan_basis(pose.ra, pose.dec);
     let t = turn_of(pose, cut);
     residuals(matches, directions, spots, basis, t, out)
-}
-
-fn least(a: usize, b: usize) -> usize
-    ensures { λ r. ⌜ r ≡ min a b ⌝ }
-{
-    if a < b { a } else { b }
 }
 
 // The first n residuals, without the marks, are copied to the places after them: so many.
@@ -131,7 +118,7 @@ fn gather(l: &mut [f64], n: usize) -> usize
 pub fn residual_median_sigma(l: &mut [f64], n: usize) -> MedianSigma
     ensures { λ r. ⌜ Measured (now (l .entry)) (now (l .exit)) n r ⌝ }
 {
-    let from = least(n, l.len() / 2);
+    let from = smaller(n, l.len() / 2);
     let count = gather(l, from);
     let to = from + count;
     median_mad_sigma(&mut l[from..to])

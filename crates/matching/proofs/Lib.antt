@@ -1,15 +1,7 @@
-pub mod Fronts
-pub mod Laying
 pub mod Runs
 pub mod Passes
-pub mod Pushing
-pub mod Threads
 pub mod Marks
 pub mod Merging
 pub mod Whole
-pub mod Floats
-pub mod Monotone
-pub mod Covered
 pub mod Unique
-pub mod Rearranged
 pub mod Theorems

@@ -12,12 +12,13 @@ use lib.Dec.{eqb}
 use lib.Ieee.{Float}
 use lib.ListN.{length, set, drop, getD, replicate, length-set, length-append, length-replicate, replicate-append-replicate, getD-replicate, List·getD-append}
 use lib.Seq.{getD-set-same, getD-set-other, getD-append-add, set-append-left, drop-at, slice, slice-cons, slice-empty}
-use Rattle.matching.specs.Pairs.{Pair}
+use Rattle.pairs.specs.Pairs.{Pair}
 use Rattle.matching.specs.Greedy.{Match, clashes, assigned, flat}
-use Rattle.matching.specs.Ordered.{All, none, more}
-use Rattle.matching.specs.Layout.{Inside, nothing, laid, Taking, taking, offered, offers}
-use Rattle.matching.proofs.Fronts.{grow-two, set-right}
-use Rattle.matching.proofs.Laying.{laid-get, laid-long}
+use Rattle.pairs.specs.Elements.{All, none, more}
+use Rattle.pairs.specs.Candidates.{Inside, nothing, laid}
+use Rattle.matching.specs.Layout.{Taking, taking, offered, offers}
+use Rattle.lists.proofs.Fronts.{grow-two, set-right}
+use Rattle.pairs.proofs.Laying.{laid-get, laid-long}
 
 -- ---- marks
 

@@ -12,20 +12,22 @@ use lib.Seq.{slice, length-slice, getD-take, getD-drop, take-at, drop-at, take-l
 use Rattle.rounding.specs.Arith.{zero64}
 use Rattle.matching.specs.declared.Matched.{Matched}
 use Rattle.matching.specs.declared.Matched.the-variants.{Matches, Short}
-use Rattle.matching.specs.Pairs.{Pair, pairs, pairsFrom, spotsWithin}
+use Rattle.pairs.specs.Pairs.{Pair, pairs, pairsFrom, spotsWithin}
+use Rattle.pairs.specs.Elements.{All, SameElements}
+use Rattle.pairs.specs.Candidates.{capacity, Inside, nothing, laid, Beyond, found, pushed}
+use Rattle.pairs.specs.Strips.{Candidate, stripRoom, pairsNearby, roomAfter}
 use Rattle.matching.specs.Merge.{notAfter, merged}
-use Rattle.matching.specs.Greedy.{Outcome, assigned, flat, cleared, clearedN, capacity, needed, placed, overfull, matchesOf, greedyUniqueMatches}
-use Rattle.matching.specs.Greedy.{stripRoom, greedyByStrips}
-use Rattle.matching.specs.Ordered.{All}
-use Rattle.matching.specs.Strips.{Gathered}
-use Rattle.matching.specs.Layout.{Inside, nothing, laid, Beyond, found, pushed, taking, Taking, offers, outcome, concluded}
-use Rattle.matching.proofs.Runs.{below-or}
-use Rattle.matching.proofs.Laying.{laid-get, laid-long, later}
-use Rattle.matching.proofs.Pushing.{Filled, Overfull, pushed-fits, pushed-over, candidates-inside}
-use Rattle.matching.proofs.Merging.{all-head, all-tail, all-merged}
+use Rattle.matching.specs.Greedy.{Outcome, assigned, flat, cleared, clearedN, needed, placed, overfull, matchesOf, greedyUniqueMatches, greedyByStrips}
+use Rattle.matching.specs.Layout.{taking, Taking, offers, outcome, concluded}
+use Rattle.lists.proofs.Cases.{below-or}
+use Rattle.pairs.proofs.Laying.{laid-get, laid-long, later}
+use Rattle.pairs.proofs.Pushing.{Filled, Overfull, pushed-fits, pushed-over, candidates-inside}
+use Rattle.pairs.proofs.Elements.{all-head, all-tail}
+use Rattle.matching.proofs.Merging.{all-merged}
 use Rattle.matching.proofs.Marks.{Taken, offersOf, all-offered, offers-laid}
 use Rattle.matching.proofs.Unique.{same-length}
-use Rattle.matching.proofs.Rearranged.{candidates}
+use Rattle.pairs.proofs.Rearranged.{candidates}
+use Rattle.pairs.proofs.Nearby.{nearby-same, nearby-candidates}
 use Rattle.matching.proofs.Theorems.{merged-rearranged}
 
 same-outcome : {a a' : Matched} {d d' : List Float} {ix ix' w w' : List ℕ} → a ≡ a' → d ≡ d' → ix ≡ ix' → w ≡ w' → outcome a d ix w ≡ outcome a' d' ix' w'
@@ -95,11 +97,34 @@ module _ (cap : ℕ) (ps : List Pair) (d : List Float) (ix : List ℕ) (ld : cap
       (λ (q : length ps ≤ cap). (q, filled q .0, filled q .1, filled q .2))
       (below-or cap (length ps))
 
--- all pairs in their own order are gathered too
-pub in-turn : (np cap : ℕ) (r2 : Float) (points predicted d : List Float) (ix : List ℕ) (d' : List Float) (ix' : List ℕ) (r : ℕ)
-    → found r d' ix' ≡ pushed cap (found 0 d ix) (pairsFrom r2 points predicted 0 np) → Gathered np cap r2 points predicted d ix d' ix' r
-in-turn np cap r2 points predicted d ix d' ix' r did =
-    record { list = pairsFrom r2 points predicted 0 np; same = λ t. refl; made = candidates np points predicted r2; pushed = did }
+-- Pairs were pushed, in some order: those within the radius of the first np spots and the predictions, `cap` of them at the most.
+pub record Gathered (np cap : ℕ) (r2 : Float) (points predicted : List Float) (d : List Float) (ix : List ℕ) (d' : List Float) (ix' : List ℕ) (r : ℕ) : Type 0 where
+  pub list : List Pair
+  pub same : SameElements list (pairsFrom r2 points predicted 0 np)
+  pub made : All (Candidate np points predicted r2) list
+  pub pushed : found r d' ix' ≡ pushed cap (found 0 d ix) list
+
+module _ (points : List Float) (limit : ℕ) (predicted : List Float) (r2 : Float) (d : List Float) (ix : List ℕ)
+    (np cap : ℕ) (spots : np ≡ spotsWithin points limit) (most : cap ≡ capacity d ix) (d' : List Float) (ix' : List ℕ) (r : ℕ) where
+  -- all pairs in their own order are gathered
+  pub in-turn : found r d' ix' ≡ pushed (capacity d ix) (found 0 d ix) (pairs points limit predicted r2) → Gathered np cap r2 points predicted d ix d' ix' r
+  unfolding pairs
+  in-turn did =
+      rw (spots, most)
+      (record { list = pairs points limit predicted r2; same = λ t. refl; made = candidates (spotsWithin points limit) points predicted r2; pushed = did })
+
+  -- and so are those that are found by strips
+  pub by-strips : (places : ℕ) → found r d' ix' ≡ pushed (capacity d ix) (found 0 d ix) (pairsNearby points limit predicted r2 places)
+      → Gathered np cap r2 points predicted d ix d' ix' r
+  unfolding pairs
+  by-strips places did =
+      rw (spots, most)
+      (record {
+        list = pairsNearby points limit predicted r2 places;
+        same = nearby-same points limit predicted r2 places;
+        made = nearby-candidates points limit predicted r2 places;
+        pushed = did;
+      })
 
 -- ---- the whole call
 
@@ -179,13 +204,16 @@ module _ (points : List Float) (limit : ℕ) (predicted : List Float) (r2 : Floa
   -- ---- with room for strips
 
   -- The strips stood in front; there the list is cleared, and behind it is as before. That rest is lent and comes back.
-  module _ (w w' v : List ℕ) (least : ℕ) (lesser : least ≡ min np nq) (fits : 2 * np + np + nq + 2 * least ≤ length w)
-      (same : drop (2 * np) w' ≡ drop (2 * np) w) (zeroed : v ≡ clearedN (2 * np) w') where
+  module _ (w v : List ℕ) (least : ℕ) (lesser : least ≡ min np nq) (fits : 2 * np + np + nq + 2 * least ≤ length w) (left : v ≡ roomAfter points limit w) where
+    left-zero : v ≡ replicate (2 * np) 0 ++ drop (2 * np) w
+    unfolding roomAfter
+    left-zero = left ∙ rw (← spots, le-ltb (length w) (2 * np) (omega arith))
+
     front-zero : take (2 * np) v ≡ replicate (2 * np) 0
-    front-zero = rw zeroed (take-at (replicate (2 * np) 0) (drop (2 * np) w') (2 * np) (length-replicate (2 * np) 0))
+    front-zero = rw left-zero (take-at (replicate (2 * np) 0) (drop (2 * np) w) (2 * np) (length-replicate (2 * np) 0))
 
     rest-kept : drop (2 * np) v ≡ drop (2 * np) w
-    rest-kept = rw zeroed (drop-at (replicate (2 * np) 0) (drop (2 * np) w') (2 * np) (length-replicate (2 * np) 0)) ∙ same
+    rest-kept = rw left-zero (drop-at (replicate (2 * np) 0) (drop (2 * np) w) (2 * np) (length-replicate (2 * np) 0))
 
     lent-rest : take (length v - 2 * np) (drop (2 * np) v) ≡ drop (2 * np) w
     lent-rest = rw (← length-drop (2 * np) v) (take-length (drop (2 * np) v)) ∙ rest-kept

@@ -6,7 +6,9 @@ use lib.Dec.{ltb, eqb}
 use lib.ListN.{length, drop, replicate}
 use lib.Ieee.{Float}
 use Rattle.rounding.specs.Arith.{zero64}
-use Rattle.matching.specs.Pairs.{Pair, pairs, spotsWithin}
+use Rattle.pairs.specs.Pairs.{Pair, pairs, spotsWithin}
+use Rattle.pairs.specs.Candidates.{capacity}
+use Rattle.pairs.specs.Strips.{stripRoom}
 use Rattle.matching.specs.Merge.{notAfter, merged}
 use Rattle.matching.specs.declared.Matched.{Matched}
 use Rattle.matching.specs.declared.Matched.the-variants.{Matches, TooMany, Short}
@@ -47,10 +49,6 @@ cleared n l = replicate n zero64 ++ drop n l
 
 abbrev pub clearedN : ℕ → List ℕ → List ℕ
 clearedN n l = replicate n 0 ++ drop n l
-
--- 01, refusal 13: how many pairs the candidate lists hold, half the distance list's length or a quarter of the index list's, whichever is less.
-abbrev pub capacity : List Float → List ℕ → ℕ
-capacity distances indices = min (length distances / 2) (length indices / 4)
 
 -- The places of `work` that a call needs: a mark for each spot within the limit and for each prediction, and two for each match.
 abbrev pub marks : List Float → ℕ → List Float → ℕ
@@ -96,10 +94,6 @@ greedyUniqueMatches points limit predicted r2 distances indices work =
     (placed (marks points limit predicted) (length (pairs points limit predicted r2)) (matchesOf points limit predicted r2) distances indices work))
 
 -- ---- with room for strips
-
--- The places that the strips need: two for each spot within the limit.
-abbrev pub stripRoom : List Float → ℕ → ℕ
-stripRoom points limit = 2 * spotsWithin points limit
 
 -- The same answer, with lent room in front of the marks where the spots are sorted into strips; it is left zero.
 unfoldable pub greedyByStrips : List Float → ℕ → List Float → Float → List Float → List ℕ → List ℕ → Outcome

@@ -16,12 +16,12 @@ fn offer(
     requires { ⌜ (np + prediction < 2 ^ 64) × (marked + 2 * t + 1 < 2 ^ 64) ⌝ }
     ensures { λ r. ⌜ (r ≤ t + 1) × (taking r (now (work .exit)) ≡ offered np marked (taking t (now (work .entry))) spot prediction) ⌝ }
 {
-    if crate::lists::at(&work[..], spot) == 0 {
-        if crate::lists::at(&work[..], np + prediction) == 0 {
-            crate::lists::put(work, spot, 1);
-            crate::lists::put(work, np + prediction, 1);
-            crate::lists::put(work, marked + 2 * t, spot);
-            crate::lists::put(work, marked + 2 * t + 1, prediction);
+    if lists::number_at(&work[..], spot) == 0 {
+        if lists::number_at(&work[..], np + prediction) == 0 {
+            lists::put_number(work, spot, 1);
+            lists::put_number(work, np + prediction, 1);
+            lists::put_number(work, marked + 2 * t, spot);
+            lists::put_number(work, marked + 2 * t + 1, prediction);
             return t + 1;
         }
     }

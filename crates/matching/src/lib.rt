@@ -5,15 +5,12 @@ ghost use Prim.Native.Nat.{_+_, _*_, _≤_, min};
 ghost use lib.ListN.{length, take};
 ghost use Rattle.matching.specs.Merge.{notAfter, merged};
 ghost use Rattle.matching.specs.Greedy.{Outcome, assigned, placed, greedyUniqueMatches, greedyByStrips};
-ghost use Rattle.matching.specs.Ordered.{All};
-ghost use Rattle.matching.specs.Pairs.{spotsWithin};
-ghost use Rattle.matching.specs.Layout.{Inside, laid, outcome, concluded};
+ghost use Rattle.pairs.specs.Elements.{All};
+ghost use Rattle.pairs.specs.Candidates.{Inside, laid};
+ghost use Rattle.matching.specs.Layout.{outcome, concluded};
 
 mod assign;
-mod lists;
 mod merge;
-mod pairs;
-mod strips;
 
 // What the matcher answers.
 pub enum Matched {
@@ -46,13 +43,6 @@ fn settle(
     lists::clear_floats(distances, 2 * m);
     lists::clear_numbers(indices, 4 * m);
     t
-}
-
-// The spots that are looked at: the first `max_points` of them.
-fn spots_within(points: &[f64], max_points: usize) -> usize
-    ensures { λ r. ⌜ r ≡ spotsWithin (now (points .entry)) «max_points» ⌝ }
-{
-    lists::smaller(points.len() / 2, max_points)
 }
 
 // What is answered once m pairs were found, and `cap` of them stand in the candidate lists at the most.
@@ -90,13 +80,13 @@ pub fn greedy_unique_matches(
 ) -> Matched
     ensures { λ r. ⌜ _≡_ {A = Outcome} (record { answer = r; distances = now (distances .exit); indices = now (indices .exit); work = now (work .exit) }) (greedyUniqueMatches (now (points .entry)) «max_points» (now (predicted .entry)) «radius_sq» (now (distances .entry)) (now (indices .entry)) (now (work .entry))) ⌝ }
 {
-    let np = spots_within(points, max_points);
+    let np = pairs::spots_within(points, max_points);
     let nq = predicted.len() / 2;
     if work.len() < np + nq + 2 * lists::smaller(np, nq) {
         return Matched::Short;
     }
     let cap = lists::smaller(distances.len() / 2, indices.len() / 4);
-    let m = pairs::collect(points, np, predicted, radius_sq, distances, indices, cap);
+    let m = pairs::collect(points, max_points, predicted, radius_sq, distances, indices);
     concluded(np, nq, cap, m, distances, indices, work)
 }
 
@@ -113,23 +103,21 @@ pub fn greedy_unique_matches_by_strips(
 ) -> Matched
     ensures { λ r. ⌜ _≡_ {A = Outcome} (record { answer = r; distances = now (distances .exit); indices = now (indices .exit); work = now (work .exit) }) (greedyByStrips (now (points .entry)) «max_points» (now (predicted .entry)) «radius_sq» (now (distances .entry)) (now (indices .entry)) (now (work .entry))) ⌝ }
 {
-    let np = spots_within(points, max_points);
+    let np = pairs::spots_within(points, max_points);
     let nq = predicted.len() / 2;
     let room = 2 * np;
     if work.len() < room + np + nq + 2 * lists::smaller(np, nq) {
         return Matched::Short;
     }
     let cap = lists::smaller(distances.len() / 2, indices.len() / 4);
-    let m = strips::collect(
+    let m = pairs::collect_by_strips(
         points,
-        np,
+        max_points,
         predicted,
         radius_sq,
         distances,
         indices,
-        cap,
         work,
     );
-    lists::clear_numbers(work, room);
     concluded(np, nq, cap, m, distances, indices, &mut work[room..])
 }

@@ -3,9 +3,10 @@
 use Prim.Native.Nat.{ℕ}
 use mathlib.Core.Path.{_≡_}
 use mathlib.Core.Bool.{Bool, cond, not, _&&_, _||_}
-use mathlib.Core.List.{List, [], _∷_, _++_}
-use lib.ListN.{length, drop}
+use mathlib.Core.List.{List, [], _∷_}
+use lib.ListN.{length}
 use lib.Ieee.{Float, lt, le}
+use Rattle.lists.specs.Fronted.{fronted}
 use Rattle.rounding.specs.Arith.{_⊕_, _⊖_, _⊗_, _⊘_, f32, zero64, one64}
 use Rattle.rounding.specs.Narrow.{narrowed}
 use Rattle.rounding.specs.Methods.{absF, clampF}
@@ -25,10 +26,6 @@ leastCosOf search margin = cos32 (clampF (narrowed (search ⊕ margin)) zero64 (
 -- `drifted` past a cosine and a margin of roll.
 unfoldable pub driftedFrom : List Float → Float → Pose → Float → Float → Bool
 driftedFrom b theta p cosine margin = lt (dot b (boresight (p .ra) (p .dec))) cosine || lt margin (absF (p .theta ⊖ theta))
-
--- New things at the front of a list, the rest as it was.
-abbrev pub fronted : {A : Type 0} → List A → List A → List A
-fronted new l = new ++ drop (length new) l
 
 -- So many stand at the front of the list.
 pub record Fronted (new was now : List ℕ) (r : ℕ) : Type 0 where

@@ -7,6 +7,7 @@ ghost use Rattle.query.specs.Query.{dot32, axis32, scanned};
 ghost use Rattle.query.specs.Listing.{leastCosOf, driftedFrom, Fronted};
 use angles::cos_f32;
 use fit::Pose;
+use lists::smaller;
 use project::boresight_of;
 use project::dot;
 use rounding::abs;
@@ -53,17 +54,11 @@ pub fn least_cos_of(search: f64, margin: f64) -> f32
     cos_f32(clamp32(narrow(search + margin), 0.0, PI))
 }
 
-fn lesser(a: usize, b: usize) -> usize
-    ensures { λ r. ⌜ r ≡ min a b ⌝ }
-{
-    if a < b { a } else { b }
-}
-
 // The directions within the cone, ascending, at the front of `out`; of the first ones, as many as it has places.
 pub fn scan_into(directions: &[f32], axis: [f32; 3], least: f32, out: &mut [usize]) -> usize
     ensures { λ r. ⌜ Fronted (scanned (now (directions .entry)) axis least 0 (min (length (now (directions .entry)) / 3) (length (now (out .entry))))) (now (out .entry)) (now (out .exit)) r ⌝ }
 {
-    let n = lesser(directions.len() / 3, out.len());
+    let n = smaller(directions.len() / 3, out.len());
     let x = axis[0];
     let y = axis[1];
     let z = axis[2];

@@ -10,7 +10,8 @@ use lib.ListN.{length, take, drop}
 use lib.Seq.{length-take-le}
 use lib.Ieee.{Float, Format, binary32, binary64}
 use Rattle.record.specs.Reading.{Read, place}
-use Rattle.record.specs.Header.{floatsOf, refusedHeader, headerOf, intake, fronted, room, readRecord, taken as takenFrom}
+use Rattle.lists.specs.Fronted.{fronted}
+use Rattle.record.specs.Header.{floatsOf, refusedHeader, headerOf, intake, room, readRecord, taken as takenFrom}
 use Rattle.record.specs.Layout.{Exposure}
 use Rattle.record.specs.Passes.{exposure, Standing, Lawful, FoundIn, headerFrom}
 use Rattle.record.specs.declared.Header.{Header}

@@ -2,10 +2,11 @@
 use mathlib.Core.Path.{_≡_}
 use Prim.Native.Nat.{ℕ, _/_}
 use mathlib.Core.Bool.{Bool, true, false, cond, _&&_}
-use mathlib.Core.List.{List, [], _∷_, _++_, map}
+use mathlib.Core.List.{List, [], _∷_}
 use lib.Dec.{leb, eqb}
-use lib.ListN.{length, getD, drop}
+use lib.ListN.{length, getD}
 use lib.Ieee.{Float, Format, binary32, binary64, ofBits}
+use Rattle.lists.specs.Fronted.{fronted}
 use Rattle.rounding.specs.Arith.{zero64}
 use Rattle.record.specs.Layout.{Exposure}
 use Rattle.record.specs.Reading.{Read, refused, whole, reading}
@@ -65,10 +66,6 @@ pub record Intake : Type 0 where
 
 abbrev pub intake : Header → List Float → List ℕ → List Float → Intake
 intake h spots matches directions = record { header = h; spots = spots; matches = matches; directions = directions }
-
--- New things at the front of a list, the rest as it was.
-abbrev pub fronted : {A : Type 0} → List A → List A → List A
-fronted new l = new ++ drop (length new) l
 
 -- 11: "Reading a record into spot, match or direction lists too short for it is 11 too, after 4; longer ones stay unchanged past it."
 abbrev pub room : Exposure → List Float → List ℕ → List Float → Bool

@@ -12,7 +12,7 @@ use Rattle.record.specs.Reading.{Values, values, fault, numbers, run, he
 use Rattle.record.specs.Header.{rotationRow}
 use Rattle.record.specs.declared.Header.{Header}
 use Rattle.record.specs.declared.heads.Head.{Head}
-use Rattle.record.specs.declared.lists.Passed.{Passed}
+use Rattle.record.specs.declared.runs.Passed.{Passed}
 use Rattle.record.specs.declared.whole.Found.{Found}
 
 -- The greatest number of so many bits.

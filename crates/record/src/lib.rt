@@ -4,15 +4,15 @@ ghost use lib.ListN.{drop};
 ghost use Prim.Native.Nat.{min};
 ghost use Rattle.record.specs.Number.{number};
 ghost use Rattle.record.specs.Header.{intake, readRecord};
-use crate::lists::fill_doubles;
-use crate::lists::fill_singles;
-use crate::lists::fill_wholes;
 use crate::reports::accepted;
 use crate::reports::refused;
+use crate::runs::fill_doubles;
+use crate::runs::fill_singles;
+use crate::runs::fill_wholes;
 use crate::whole::look_over;
 
 mod heads; // heads.rt: the first seventeen numbers
-mod lists; // lists.rt: runs of numbers, gone over and written to lists
+mod runs; // runs.rt: runs of numbers, gone over and written to lists
 mod numbers; // numbers.rt: one whole number
 mod reports; // reports.rt: the header that is handed back
 mod whole; // whole.rt: the first pass over a record

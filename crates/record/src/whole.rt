@@ -2,9 +2,9 @@
 ghost use mathlib.Core.Path.{_≡_};
 ghost use Rattle.record.specs.Passes.{FoundIn};
 use crate::heads::read_head;
-use crate::lists::skip;
 use crate::numbers::TOP_32;
 use crate::numbers::TOP_64;
+use crate::runs::skip;
 
 const MOST_BYTES: usize = 65536;
 

@@ -4,7 +4,7 @@ use mathlib.Core.List.{List, [], _∷_, map}
 use Prim.Native.Nat.{ℕ, zero, suc, _+_, _≤_, _<_}
 use native.Mathlib.Numerals.{add-one}
 use native.Mathlib.Omega.{arith}
-use lib.ListN.{length, getD, set, replicate, length-set}
+use lib.ListN.{length, getD, set, length-set}
 
 module _ {A : Type 0} (f : A → A) where
   unfoldable pub front : ℕ → List A → List A
@@ -59,7 +59,3 @@ module _ {A : Type 0} (f : A → A) where
 
   pub fronted-all : (d l : List A) (i : ℕ) → Fronted d l i → length l ≤ i → l ≡ map f d
   fronted-all d l i F h = F .is ∙ front-all i d (omega (arith, F .long))
-
-pub map-constant : {A : Type 0} (a : A) (l : List A) → map (λ (x : A). a) l ≡ replicate (length l) a
-map-constant a [] = refl
-map-constant a (x ∷ l) = ap (λ r. a ∷ r) (map-constant a l)

@@ -1,7 +1,5 @@
 // Robust statistics: the Rust's stats.rs.
 ghost use mathlib.Core.Path.{_≡_};
-ghost use lib.ListN.{length, replicate};
-ghost use Rattle.rounding.specs.Arith.{zero64};
 ghost use Rattle.stats.specs.Median.{Summarised, deviations};
 
 mod sample; // sample.rt: thresholds near a place
@@ -27,16 +25,6 @@ fn deviate(vals: &mut [f64], m: f64)
     }
 }
 
-fn clear(vals: &mut [f64])
-    ensures { λ _. ⌜ now (vals .exit) ≡ replicate (length (now (vals .entry))) zero64 ⌝ }
-{
-    let mut i: usize = 0;
-    while i < vals.len() {
-        vals[i] = 0.0;
-        i += 1;
-    }
-}
-
 // The median and 1.4826 times the median absolute deviation, each the upper of two middle values; 0 and 0 where there are no values.
 // The list is scratch, and is left all zero.
 pub fn median_mad_sigma(vals: &mut [f64]) -> MedianSigma
@@ -53,6 +41,6 @@ pub fn median_mad_sigma(vals: &mut [f64]) -> MedianSigma
     let median = selection::select(vals, mid);
     deviate(vals, median);
     let sigma = MAD_SCALE * selection::select(vals, mid);
-    clear(vals);
+    lists::clear_floats(vals, n);
     MedianSigma { median, sigma }
 }

@@ -1,6 +1,6 @@
 // Both sides of every bound of the checks on entry. A trial tells the number of its refusal, or 0.
-ghost use Prim.Native.Nat.{_≤_};
 use crate::tell::number;
+use lists::smaller;
 use rounding::from_bits32;
 use rounding::from_bits64;
 use wcs_refine::wcs_refine;
@@ -27,12 +27,6 @@ fn lawful() -> Choices {
         floats: 64,
         result: 2,
     }
-}
-
-fn smaller(a: usize, b: usize) -> usize
-    ensures { λ r. ⌜ r ≤ b ⌝ }
-{
-    if a < b { a } else { b }
 }
 
 fn identity() -> [[f32; 3]; 3] {

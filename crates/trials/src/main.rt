@@ -1,6 +1,6 @@
 // Tries the refinement call at both sides of its bounds, and tries, premise by premise, the theorem about two calls. One line a trial.
 mod bounds; // bounds.rt: refusals 5 to 11
-mod pairs; // pairs.rt: two calls that differ
+mod two_calls; // two_calls.rt: two calls that differ
 mod tell; // tell.rt: what is written
 
 fn main() {
@@ -12,5 +12,5 @@ fn main() {
     bounds::components();
     bounds::named();
     bounds::long();
-    pairs::all();
+    two_calls::all();
 }

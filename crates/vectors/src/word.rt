@@ -17,27 +17,13 @@ pub(crate) fn end(text: &[u8], from: usize, byte: u8) -> usize
     i
 }
 
-fn equal(a: &[u8], b: &[u8]) -> bool {
-    if a.len() != b.len() {
-        return false;
-    }
-    let mut i = 0;
-    while i < a.len() {
-        if a[i] != b[i] {
-            return false;
-        }
-        i += 1;
-    }
-    true
-}
-
 // Which of the names, with spaces between them, this name is: 0 for the first, and as many as there are for none.
 pub(crate) fn place(name: &[u8], names: &[u8]) -> usize {
     let mut k: usize = 0;
     let mut from = 0;
     while from < names.len() {
         let to = end(names, from, 32);
-        if equal(name, &names[from..to]) {
+        if check::same(name, &names[from..to]) {
             return k;
         }
         k += 1;

@@ -10,8 +10,9 @@ use lib.ListN.{length, getD, take, drop, length-append, length-drop}
 use lib.Seq.{slice, length-slice, take-take, take-at, getD-take, getD-drop, getD-append-add, ext-getD}
 use lib.Ieee.{Float}
 use Rattle.rounding.specs.Arith.{_⊗_}
-use Rattle.matching.specs.Pairs.{pairs}
-use Rattle.matching.specs.Greedy.{Match, flat, matchesOf, capacity}
+use Rattle.pairs.specs.Pairs.{pairs}
+use Rattle.matching.specs.Greedy.{Match, flat, matchesOf}
+use Rattle.pairs.specs.Candidates.{capacity}
 use Rattle.fit.specs.declared.Pose.{Pose}
 use Rattle.entry.specs.declared.Settings.{Settings}
 use Rattle.entry.specs.Entry.{fixedOf}

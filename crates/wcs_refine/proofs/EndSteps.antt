@@ -6,7 +6,7 @@ use native.Mathlib.Numerals.{add-one}
 use native.Mathlib.Omega.{arith}
 use lib.ListN.{length, getD, set, drop, drop-of-length-le}
 use lib.Seq.{drop-cons}
-use Rattle.query.specs.Listing.{fronted}
+use Rattle.lists.specs.Fronted.{fronted}
 use Rattle.query.proofs.Listed.{Writing, onward, front-push, front-whole}
 
 module _ (new o l : List ℕ) (i : ℕ) (w : Writing 0 i l o (drop i new) new) where

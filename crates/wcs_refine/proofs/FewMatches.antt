@@ -9,13 +9,13 @@ use borrow.Author.Tests.{eqb-true, eqb-false}
 use lib.Dec.{eqb}
 use lib.ListN.{length}
 use lib.Ieee.{Float}
-use Rattle.matching.specs.Pairs.{Pair, pairsFrom, pairs, spotsWithin}
+use Rattle.pairs.specs.Pairs.{Pair, pairsFrom, pairs, spotsWithin}
 use Rattle.matching.specs.Merge.{notAfter, merged}
 use Rattle.matching.specs.Greedy.{Match, clashes, assigned, matchesOf}
-use Rattle.matching.specs.Ordered.{All, none, more}
-use Rattle.matching.specs.Layout.{Inside}
+use Rattle.pairs.specs.Elements.{All, none, more}
+use Rattle.pairs.specs.Candidates.{Inside}
 use Rattle.matching.proofs.Merging.{all-merged}
-use Rattle.matching.proofs.Pushing.{pairs-inside}
+use Rattle.pairs.proofs.Pushing.{pairs-inside}
 use Rattle.query.specs.Query.{Prediction}
 use Rattle.wcs_refine.specs.Associate.{renamed}
 

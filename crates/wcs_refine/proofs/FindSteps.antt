@@ -9,8 +9,9 @@ use lib.Dec.{ltb}
 use lib.ListN.{length, getD, take, drop, replicate, length-append, length-take, length-drop, length-replicate, getD-replicate, replicate-append-replicate, List·getD-append}
 use lib.Seq.{slice, length-take-le, take-add, take-at, drop-at, take-take, getD-take, getD-append-add, length-slice}
 use lib.Ieee.{Float}
-use Rattle.matching.specs.Pairs.{pairs, spotsWithin}
-use Rattle.matching.specs.Greedy.{Match, flat, matchesOf, capacity, placed, overfull, Outcome, greedyUniqueMatches, greedyByStrips}
+use Rattle.pairs.specs.Pairs.{pairs, spotsWithin}
+use Rattle.matching.specs.Greedy.{Match, flat, matchesOf, placed, overfull, Outcome, greedyUniqueMatches, greedyByStrips}
+use Rattle.pairs.specs.Candidates.{capacity}
 use Rattle.matching.specs.declared.Matched.{Matched}
 use Rattle.matching.specs.declared.Matched.the-variants.{Matches, TooMany}
 use Rattle.wcs_refine.specs.Listing.{renamedBy}

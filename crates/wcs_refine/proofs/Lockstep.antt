@@ -8,7 +8,7 @@ use lib.Dec.{leb, ltb}
 use lib.ListN.{length}
 use lib.Ieee.{Float}
 use Rattle.rounding.specs.Arith.{_⊗_}
-use Rattle.matching.specs.Pairs.{pairs, spotsWithin}
+use Rattle.pairs.specs.Pairs.{pairs, spotsWithin}
 use Rattle.matching.specs.Greedy.{matchesOf}
 use Rattle.project.specs.Camera.{boresight, cameraRows}
 use Rattle.fit.specs.Rows.{Row, rows, viewOf}

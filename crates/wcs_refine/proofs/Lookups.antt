@@ -6,7 +6,7 @@ use mathlib.Core.Bool.{Bool, true, false, cond, true≢false, false≢true}
 use mathlib.Core.List.{List, [], _∷_, _++_}
 use lib.ListN.{length}
 use lib.Ieee.{Float, le}
-use Rattle.matching.specs.Pairs.{Pair, pointAt, pairsOf, pairsFrom, pairs, spotsWithin}
+use Rattle.pairs.specs.Pairs.{Pair, pointAt, pairsOf, pairsFrom, pairs, spotsWithin}
 use Rattle.matching.specs.Merge.{notAfter, merged}
 use Rattle.matching.specs.Greedy.{assigned, matchesOf}
 use Rattle.fit.specs.Rows.{spotAt, directionAt, rowAt, rowsFrom, rows}

@@ -9,7 +9,7 @@ use borrow.Author.Tests.{eqb-true, eq-eqb}
 use lib.Dec.{eqb}
 use lib.ListN.{length}
 use lib.Ieee.{Float}
-use Rattle.matching.specs.Pairs.{Pair, pairs, spotsWithin}
+use Rattle.pairs.specs.Pairs.{Pair, pairs, spotsWithin}
 use Rattle.matching.specs.Merge.{notAfter, merged}
 use Rattle.matching.specs.Greedy.{Match, clashes, assigned, matchesOf, flat}
 use Rattle.wcs_refine.specs.Associate.{links}

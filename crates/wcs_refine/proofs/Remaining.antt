@@ -9,7 +9,7 @@ use lib.Dec.{leb, ltb}
 use lib.ListN.{length, getD, drop}
 use lib.Seq.{take-at}
 use lib.Ieee.{Float, nan, le}
-use Rattle.matching.specs.Pairs.{Pair, Point, pointAt, squared, within, pairsOf, pairsFrom, pairs, spotsWithin}
+use Rattle.pairs.specs.Pairs.{Pair, Point, pointAt, squared, within, pairsOf, pairsFrom, pairs, spotsWithin}
 use Rattle.matching.specs.Merge.{notAfter, into, merge, mergeNeighbours, mergeRuns, singles, merged}
 use Rattle.matching.specs.Greedy.{Match, clashes, assigned, matchesOf}
 use Rattle.fit.specs.Residual.{keeps, keptFrom, thresholdOf, kept, Clipped, madClipMatches}

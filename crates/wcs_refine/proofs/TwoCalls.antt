@@ -8,7 +8,7 @@ use mathlib.Core.List.{List, [], _∷_}
 use lib.ListN.{length}
 use lib.Ieee.{Float}
 use Rattle.rounding.specs.Arith.{zero64}
-use Rattle.matching.specs.Pairs.{spotsWithin}
+use Rattle.pairs.specs.Pairs.{spotsWithin}
 use Rattle.fit.specs.Rows.{spotAt, directionAt}
 use Rattle.entry.specs.Arguments.{Call, Given, spotCount, directionCount}
 use Rattle.entry.specs.Check.{refusal}

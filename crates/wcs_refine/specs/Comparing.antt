@@ -9,8 +9,9 @@ use lib.ListN.{getD, length, take, drop}
 use lib.Seq.{slice}
 use lib.Ieee.{Float}
 use Rattle.rounding.specs.Arith.{_⊗_}
-use Rattle.matching.specs.Pairs.{pairs, spotsWithin}
-use Rattle.matching.specs.Greedy.{flat, matchesOf, capacity}
+use Rattle.pairs.specs.Pairs.{pairs, spotsWithin}
+use Rattle.matching.specs.Greedy.{flat, matchesOf}
+use Rattle.pairs.specs.Candidates.{capacity}
 use Rattle.wcs_refine.specs.Associate.{Link, links, sameMatches}
 use Rattle.wcs_refine.specs.Listing.{renamedBy}
 use Rattle.wcs_refine.specs.declared.associating.Tally.{Tally}

@@ -8,7 +8,7 @@ use mathlib.Core.List.{List}
 use lib.ListN.{length, take}
 use lib.Seq.{slice}
 use lib.Ieee.{Float}
-use Rattle.matching.specs.Greedy.{capacity}
+use Rattle.pairs.specs.Candidates.{capacity}
 use Rattle.fit.specs.declared.Pose.{Pose}
 use Rattle.entry.specs.declared.Settings.{Settings}
 use Rattle.entry.specs.Fixed.{Fixed}

@@ -8,7 +8,8 @@ use lib.ListN.{getD, length, take, drop}
 use lib.Seq.{slice}
 use lib.Ieee.{Float}
 use Rattle.query.specs.Query.{Prediction}
-use Rattle.query.specs.Listing.{fronted, standing}
+use Rattle.lists.specs.Fronted.{fronted}
+use Rattle.query.specs.Listing.{standing}
 use Rattle.query.specs.declared.Fall.{Fall}
 
 -- The points of the listed directions that reach the panel, x then y.

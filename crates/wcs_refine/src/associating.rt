@@ -1,7 +1,7 @@
 // The second half of a round's search: the matcher on the predictions, and whether its matches are new.
 ghost use mathlib.Core.Path.{_≡_};
 ghost use mathlib.Core.List.{_++_};
-ghost use Prim.Native.Nat.{_+_, _*_, _/_, _≤_, min};
+ghost use Prim.Native.Nat.{_+_, _*_, _/_, _≤_};
 ghost use lib.ListN.{length, drop};
 ghost use lib.Seq.{slice};
 ghost use Rattle.wcs_refine.specs.Keeping.{Matchable, Fits, AssociatedTo};
@@ -11,6 +11,7 @@ use crate::keeping::Verdict;
 use crate::keeping::with_used;
 use crate::rename::renamed_into;
 use entry::Settings;
+use lists::smaller;
 use matching::Matched;
 use matching::greedy_unique_matches_by_strips;
 use query::Held;
@@ -28,13 +29,6 @@ pub(crate) struct Tally {
     pub full: bool,
     pub within: usize,
     pub count: usize,
-}
-
-// The spots looked at: all, or as many as the limit allows.
-fn smaller(a: usize, b: usize) -> usize
-    ensures { λ r. ⌜ r ≡ min a b ⌝ }
-{
-    if a < b { a } else { b }
 }
 
 // The matcher works in regions 4 to 7, which are as long as strips, marks and matches can need; its matches go from there to region 8 by their directions.

@@ -3,7 +3,7 @@ ghost use mathlib.Core.Path.{_≡_};
 ghost use Prim.Native.Nat.{_*_, _%_, _≤_};
 ghost use lib.ListN.{length, take};
 ghost use Rattle.entry.specs.Entry.{fixedOf};
-ghost use Rattle.query.specs.Listing.{fronted};
+ghost use Rattle.lists.specs.Fronted.{fronted};
 ghost use Rattle.wcs_refine.specs.Closing.{cleaned};
 ghost use Rattle.wcs_refine.specs.Ending.{Begun, concluded, Answered};
 use crate::WcsRefineResult;

@@ -1,6 +1,9 @@
 -- `concluded` clears what more pairs than fit have left, or hands the pairs on to `settle`.
+use Prim.Native.Nat.{_*_}
 use native.Mathlib.Omega.{arith}
 use borrow.Author.Tests.{lt-ltb, le-ltb}
+use Rattle.rounding.specs.Arith.{zero64}
+use Rattle.lists.proofs.Clearing.{cleared-within}
 use Rattle.matching.specs.Layout.{concluded}
 use borrow.Author.Needs.{needs}
 use Rattle.matching.proofs.concluded.Statement.{statement}
@@ -27,8 +30,15 @@ returns c =
     let e = c .before .before in
     let f = e .before .before .before .before in
     let t = f .before .before in
-    let a = t .before .before .before .before .args in
-    rw (e .clear-numbers .ensures, f .clear-floats .ensures, lt-ltb (a .cap) (a .m) (t .if1 .taken))
+    let s = t .before .before .before .before in
+    let a = s .args in
+    rw (
+      e .clear-numbers .ensures,
+      cleared-within 0 (2 * a .cap) (a .indices .now) (omega (arith, s .pre .1)),
+      f .clear-floats .ensures,
+      cleared-within zero64 (a .cap) (a .distances .now) (omega (arith, s .pre .0)),
+      lt-ltb (a .cap) (a .m) (t .if1 .taken),
+    )
 
 settle-requires : tie.Need-settle-requires
 settle-requires c κs =

@@ -45,8 +45,8 @@ concluded-requires c κs =
     let a = q .before .before .before .before .before .before .before .before .args in
     let d' = l .collect .last .1 .1 .1 .1 .0 in
     let ix' = l .collect .last .1 .1 .1 .1 .1 .0 in
-    let did = in-turn (s1 .result) (t .smaller2 .result) (a .radius-sq) (a .points .now) (a .predicted .now) (a .distances .now) (a .indices .now)
-    d' ix' (l .collect .result) (l .collect .ensures) in (
+    let did = in-turn (a .points .now) (a .max-points) (a .predicted .now) (a .radius-sq) (a .distances .now) (a .indices .now)
+    (s1 .result) (t .smaller2 .result) (s1 .ensures) (t .smaller2 .ensures) d' ix' (l .collect .result) (l .collect .ensures) in (
       omega (arith, t .smaller2 .ensures, l .collect .kept .1 .1 .1 .1 .0),
       omega (arith, t .smaller2 .ensures, l .collect .kept .1 .1 .1 .1 .1 .0),
       rw (← s2 .ensures) (q .if1 .left),
@@ -74,8 +74,8 @@ returns-2 c =
     let a = q .before .before .before .before .before .before .before .before .args in
     let d' = l .collect .last .1 .1 .1 .1 .0 in
     let ix' = l .collect .last .1 .1 .1 .1 .1 .0 in
-    let did = in-turn (s1 .result) (t .smaller2 .result) (a .radius-sq) (a .points .now) (a .predicted .now) (a .distances .now) (a .indices .now)
-    d' ix' (l .collect .result) (l .collect .ensures) in
+    let did = in-turn (a .points .now) (a .max-points) (a .predicted .now) (a .radius-sq) (a .distances .now) (a .indices .now)
+    (s1 .result) (t .smaller2 .result) (s1 .ensures) (t .smaller2 .ensures) d' ix' (l .collect .result) (l .collect .ensures) in
     answered (a .points .now) (a .max-points) (a .predicted .now) (a .radius-sq) (a .distances .now) (a .indices .now)
     (s1 .result) (t .smaller2 .result) (s1 .ensures) (t .smaller2 .ensures) (l .collect .result) d' ix' did
     (a .work .now) (s2 .result) (s2 .ensures) (q .if1 .left)

@@ -2,7 +2,7 @@
 -- `work` behind the strips' room is what the other call would have been given.
 use mathlib.Core.Path.{_∙_}
 use native.Mathlib.Omega.{arith}
-use Rattle.matching.proofs.Whole.{given, too-short-for-strips, enough-lent, answered-by-strips}
+use Rattle.matching.proofs.Whole.{by-strips, given, too-short-for-strips, enough-lent, answered-by-strips}
 use borrow.Author.Needs.{needs}
 use Rattle.matching.proofs.greedy_unique_matches_by_strips.Statement.{statement}
 use Rattle.matching.proofs.greedy_unique_matches_by_strips.Tie as tie
@@ -39,11 +39,8 @@ returns c =
 smaller-requires-2 : tie.Need-smaller-requires-2
 smaller-requires-2 c κs = search needs
 
-collect-requires : tie.Need-collect-requires
-collect-requires c κs = search needs
-
-clear-numbers-requires : tie.Need-clear-numbers-requires
-clear-numbers-requires c κs = search needs
+collect-by-strips-requires : tie.Need-collect-by-strips-requires
+collect-by-strips-requires c κs = search needs
 
 mul-concluded : tie.Need-mul-concluded
 mul-concluded c = omega arith
@@ -59,36 +56,38 @@ part-concluded-end c = omega arith
 
 concluded-requires : tie.Need-concluded-requires
 concluded-requires c κs =
-    let z = c .before .before .before .before .before in
-    let l = z .before .before .before .before .before .before .before .before in
+    let l = c .before .before .before .before .before .before .before .before .before in
     let t = l .before .before .before .before in
     let q = t .before in
     let s2 = q .before .smaller in
     let s1 = q .before .before .spots-within in
     let a = q .before .before .before .before .before .before .before .before .args in
-    let d' = l .collect .last .1 .1 .1 .1 .0 in
-    let ix' = l .collect .last .1 .1 .1 .1 .1 .0 in
-    let w' = l .collect .last .1 .1 .1 .1 .1 .1 .1 .0 in (
-      omega (arith, t .smaller2 .ensures, l .collect .kept .1 .1 .1 .1 .0),
-      omega (arith, t .smaller2 .ensures, l .collect .kept .1 .1 .1 .1 .1 .0),
+    let n = l .collect-by-strips in
+    let d' = n .last .1 .1 .1 .1 .0 in
+    let ix' = n .last .1 .1 .1 .1 .1 .0 in
+    let v = n .last .1 .1 .1 .1 .1 .1 .0 in
+    let did = by-strips (a .points .now) (a .max-points) (a .predicted .now) (a .radius-sq) (a .distances .now) (a .indices .now)
+    (s1 .result) (t .smaller2 .result) (s1 .ensures) (t .smaller2 .ensures) d' ix' (n .result) _ (n .ensures .0) in (
+      omega (arith, t .smaller2 .ensures, n .kept .1 .1 .1 .1 .0),
+      omega (arith, t .smaller2 .ensures, n .kept .1 .1 .1 .1 .1 .0),
       enough-lent (a .points .now) (a .max-points) (a .predicted .now) (a .radius-sq) (a .distances .now) (a .indices .now)
-          (s1 .result) (t .smaller2 .result) (s1 .ensures) (t .smaller2 .ensures) (l .collect .result) d' ix' (l .collect .ensures .0)
-          (a .work .now) w' (z .clear-numbers .last .0) (s2 .result) (s2 .ensures) (q .if1 .left) (l .collect .ensures .1) (z .clear-numbers .ensures),
+          (s1 .result) (t .smaller2 .result) (s1 .ensures) (t .smaller2 .ensures) (n .result) d' ix' did
+          (a .work .now) v (s2 .result) (s2 .ensures) (q .if1 .left) (n .ensures .1),
       given (a .points .now) (a .max-points) (a .predicted .now) (a .radius-sq) (a .distances .now) (a .indices .now)
-          (s1 .result) (t .smaller2 .result) (s1 .ensures) (t .smaller2 .ensures) (l .collect .result) d' ix' (l .collect .ensures .0),
+          (s1 .result) (t .smaller2 .result) (s1 .ensures) (t .smaller2 .ensures) (n .result) d' ix' did,
     )
 
 same-length : tie.Need-same-length
 same-length c =
     let u = c .before .before .before .before .before .before in
-    let l = u .before .before .before .before .before .before .before .before .before .before .before .before .before .before in
-    u .concluded .kept .1 .1 .1 .1 .0 ∙ l .collect .kept .1 .1 .1 .1 .0
+    let l = u .before .before .before .before .before .before .before .before .before .before in
+    u .concluded .kept .1 .1 .1 .1 .0 ∙ l .collect-by-strips .kept .1 .1 .1 .1 .0
 
 same-length-2 : tie.Need-same-length-2
 same-length-2 c =
     let u = c .before .before .before .before .before .before in
-    let l = u .before .before .before .before .before .before .before .before .before .before .before .before .before .before in
-    u .concluded .kept .1 .1 .1 .1 .1 .0 ∙ l .collect .kept .1 .1 .1 .1 .1 .0
+    let l = u .before .before .before .before .before .before .before .before .before .before in
+    u .concluded .kept .1 .1 .1 .1 .1 .0 ∙ l .collect-by-strips .kept .1 .1 .1 .1 .1 .0
 
 same-length-3 : tie.Need-same-length-3
 same-length-3 c = omega arith
@@ -96,19 +95,21 @@ same-length-3 c = omega arith
 returns-2 : tie.Need-returns-2
 returns-2 c =
     let u = c .before .before .before .before .before .before in
-    let z = u .before .before .before .before .before .before in
-    let l = z .before .before .before .before .before .before .before .before in
+    let l = u .before .before .before .before .before .before .before .before .before .before in
     let t = l .before .before .before .before in
     let q = t .before in
     let s2 = q .before .smaller in
     let s1 = q .before .before .spots-within in
     let a = q .before .before .before .before .before .before .before .before .args in
-    let d' = l .collect .last .1 .1 .1 .1 .0 in
-    let ix' = l .collect .last .1 .1 .1 .1 .1 .0 in
-    let w' = l .collect .last .1 .1 .1 .1 .1 .1 .1 .0 in
+    let n = l .collect-by-strips in
+    let d' = n .last .1 .1 .1 .1 .0 in
+    let ix' = n .last .1 .1 .1 .1 .1 .0 in
+    let v = n .last .1 .1 .1 .1 .1 .1 .0 in
+    let did = by-strips (a .points .now) (a .max-points) (a .predicted .now) (a .radius-sq) (a .distances .now) (a .indices .now)
+    (s1 .result) (t .smaller2 .result) (s1 .ensures) (t .smaller2 .ensures) d' ix' (n .result) _ (n .ensures .0) in
     answered-by-strips (a .points .now) (a .max-points) (a .predicted .now) (a .radius-sq) (a .distances .now) (a .indices .now)
-    (s1 .result) (t .smaller2 .result) (s1 .ensures) (t .smaller2 .ensures) (l .collect .result) d' ix' (l .collect .ensures .0)
-    (a .work .now) w' (z .clear-numbers .last .0) (s2 .result) (s2 .ensures) (q .if1 .left) (l .collect .ensures .1) (z .clear-numbers .ensures)
+    (s1 .result) (t .smaller2 .result) (s1 .ensures) (t .smaller2 .ensures) (n .result) d' ix' did
+    (a .work .now) v (s2 .result) (s2 .ensures) (q .if1 .left) (n .ensures .1)
     (u .concluded .result) (u .concluded .last .1 .1 .1 .1 .0) (u .concluded .last .1 .1 .1 .1 .1 .0) (u .concluded .last .1 .1 .1 .1 .1 .1 .0)
     (u .concluded .ensures)
 
@@ -125,8 +126,7 @@ greedy-unique-matches-by-strips-spec =
     add-if1-3
     returns
     smaller-requires-2
-    collect-requires
-    clear-numbers-requires
+    collect-by-strips-requires
     mul-concluded
     sub-concluded
     part-concluded-start

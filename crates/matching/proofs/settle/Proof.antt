@@ -1,7 +1,9 @@
 -- `settle` orders the pairs, offers them, and clears what it used.
-use Prim.Native.Nat.{_*_, _≤_}
+use Prim.Native.Nat.{_+_, _*_, _≤_}
 use native.Mathlib.Omega.{arith}
 use lib.ListN.{length}
+use Rattle.rounding.specs.Arith.{zero64}
+use Rattle.lists.proofs.Clearing.{cleared-within}
 use Rattle.matching.proofs.Whole.{names-one, settled}
 use borrow.Author.Needs.{needs}
 use Rattle.matching.proofs.settle.Statement.{statement}
@@ -64,9 +66,17 @@ returns c =
     let a = s .args in
     let ld : 2 * a .m ≤ length (o .order .last .0) = rw (o .order .kept .0) (s .pre .0) in
     let li : 4 * a .m ≤ length (o .order .last .1 .0) = rw (o .order .kept .1 .0) (s .pre .1) in
-    rw (x .clear-numbers3 .ensures, y .clear-floats .ensures, z .clear-numbers2 .ensures)
+    let lw : a .np + a .nq ≤ length (t .assign .last .1 .1 .1 .1 .1 .0) = omega (arith, s .pre .2, t .assign .kept .1 .1 .1 .1 .1 .0, v .clear-numbers .kept .0) in
+    rw (
+      x .clear-numbers3 .ensures,
+      cleared-within 0 (4 * a .m) (o .order .last .1 .0) li,
+      y .clear-floats .ensures,
+      cleared-within zero64 (2 * a .m) (o .order .last .0) ld,
+      z .clear-numbers2 .ensures,
+      cleared-within 0 (a .np + a .nq) (t .assign .last .1 .1 .1 .1 .1 .0) lw,
+    )
     (settled (a .np) (a .nq) (a .m) (a .distances .now) (a .indices .now) (a .work .now) _ _ _ ld li (s .pre .3) (o .order .ensures) _ _ (s .pre .2)
-    (rw (v .clear-numbers .ensures) at (t .assign .ensures)))
+    (rw (v .clear-numbers .ensures, cleared-within 0 (a .np + a .nq) (a .work .now) (omega (arith, s .pre .2))) at (t .assign .ensures)))
 
 pub settle-spec : {M : Type 1} → statement M
 settle-spec =

@@ -14,7 +14,7 @@ widen-requires : tie.Need-widen-requires
 widen-requires c κs = search needs
 
 returns : tie.Need-returns
-returns c = λ k e. settled k e (c .before .before .farthest-of .ensures) (c .before .smaller .ensures .0) (c .widen .ensures)
+returns c = λ k e. settled k e (c .before .before .farthest-of .ensures) (c .before .smaller .ensures) (c .widen .ensures)
 
 pub settings-of-spec : {M : Type 1} → statement M
 settings-of-spec =

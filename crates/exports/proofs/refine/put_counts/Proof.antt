@@ -3,17 +3,17 @@ use borrow.Author.Needs.{needs}
 use Rattle.exports.proofs.refine.put_counts.Statement.{statement}
 use Rattle.exports.proofs.refine.put_counts.Tie as tie
 
-put-count-requires : tie.Need-put-count-requires
-put-count-requires c κs = search needs
+put-number-requires : tie.Need-put-number-requires
+put-number-requires c κs = search needs
 
-put-count-requires-2 : tie.Need-put-count-requires-2
-put-count-requires-2 c κs = search needs
+put-number-requires-2 : tie.Need-put-number-requires-2
+put-number-requires-2 c κs = search needs
 
-put-count-requires-3 : tie.Need-put-count-requires-3
-put-count-requires-3 c κs = search needs
+put-number-requires-3 : tie.Need-put-number-requires-3
+put-number-requires-3 c κs = search needs
 
-put-count-requires-4 : tie.Need-put-count-requires-4
-put-count-requires-4 c κs = search needs
+put-number-requires-4 : tie.Need-put-number-requires-4
+put-number-requires-4 c κs = search needs
 
 same-length : tie.Need-same-length
 same-length c = search needs
@@ -24,15 +24,15 @@ returns c =
     let w3 = w4 .before .before .before .before in
     let w2 = w3 .before .before .before .before in
     let w1 = w2 .before .before .before .before in
-    rw (w4 .put-count4 .ensures, w3 .put-count3 .ensures, w2 .put-count2 .ensures, w1 .put-count .ensures)
+    rw (w4 .put-number4 .ensures, w3 .put-number3 .ensures, w2 .put-number2 .ensures, w1 .put-number .ensures)
 
 pub put-counts-spec : {M : Type 1} → statement M
 put-counts-spec =
     tie.close
     (tie.spec
-    put-count-requires
-    put-count-requires-2
-    put-count-requires-3
-    put-count-requires-4
+    put-number-requires
+    put-number-requires-2
+    put-number-requires-3
+    put-number-requires-4
     same-length
     returns)

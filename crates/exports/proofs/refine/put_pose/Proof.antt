@@ -3,17 +3,17 @@ use borrow.Author.Needs.{needs}
 use Rattle.exports.proofs.refine.put_pose.Statement.{statement}
 use Rattle.exports.proofs.refine.put_pose.Tie as tie
 
-put-requires : tie.Need-put-requires
-put-requires c κs = search needs
+put-float-requires : tie.Need-put-float-requires
+put-float-requires c κs = search needs
 
-put-requires-2 : tie.Need-put-requires-2
-put-requires-2 c κs = search needs
+put-float-requires-2 : tie.Need-put-float-requires-2
+put-float-requires-2 c κs = search needs
 
-put-requires-3 : tie.Need-put-requires-3
-put-requires-3 c κs = search needs
+put-float-requires-3 : tie.Need-put-float-requires-3
+put-float-requires-3 c κs = search needs
 
-put-requires-4 : tie.Need-put-requires-4
-put-requires-4 c κs = search needs
+put-float-requires-4 : tie.Need-put-float-requires-4
+put-float-requires-4 c κs = search needs
 
 same-length : tie.Need-same-length
 same-length c = search needs
@@ -24,9 +24,9 @@ returns c =
     let w3 = w4 .before .before .before .before in
     let w2 = w3 .before .before .before .before in
     let w1 = w2 .before .before .before .before in
-    rw (w4 .put4 .ensures, w3 .put3 .ensures, w2 .put2 .ensures, w1 .put .ensures)
+    rw (w4 .put-float4 .ensures, w3 .put-float3 .ensures, w2 .put-float2 .ensures, w1 .put-float .ensures)
 
 pub put-pose-spec : {M : Type 1} → statement M
 put-pose-spec =
     tie.close
-    (tie.spec put-requires put-requires-2 put-requires-3 put-requires-4 same-length returns)
+    (tie.spec put-float-requires put-float-requires-2 put-float-requires-3 put-float-requires-4 same-length returns)

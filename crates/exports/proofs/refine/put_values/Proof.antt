@@ -12,8 +12,8 @@ put-two-requires c κs = search needs
 put-two-requires-2 : tie.Need-put-two-requires-2
 put-two-requires-2 c κs = search needs
 
-put-requires : tie.Need-put-requires
-put-requires c κs = search needs
+put-float-requires : tie.Need-put-float-requires
+put-float-requires c κs = search needs
 
 put-three-requires : tie.Need-put-three-requires
 put-three-requires c κs = search needs
@@ -40,7 +40,7 @@ returns c =
       w7 .put-three3 .ensures,
       w6 .put-three2 .ensures,
       w5 .put-three .ensures,
-      w4 .put .ensures,
+      w4 .put-float .ensures,
       w3 .put-two2 .ensures,
       w2 .put-two .ensures,
       w1 .put-pose .ensures,
@@ -53,7 +53,7 @@ put-values-spec =
     put-pose-requires
     put-two-requires
     put-two-requires-2
-    put-requires
+    put-float-requires
     put-three-requires
     put-three-requires-2
     put-three-requires-3

@@ -5,8 +5,8 @@ use Rattle.fit.proofs.Gathered.{room, measured}
 use Rattle.fit.proofs.residual.residual_median_sigma.Statement.{statement}
 use Rattle.fit.proofs.residual.residual_median_sigma.Tie as tie
 
-least-requires : tie.Need-least-requires
-least-requires c κs = search needs
+smaller-requires : tie.Need-smaller-requires
+smaller-requires c κs = search needs
 
 gather-requires : tie.Need-gather-requires
 gather-requires c κs = search needs
@@ -14,7 +14,7 @@ gather-requires c κs = search needs
 add-to : tie.Need-add-to
 add-to c =
     let a = c .before .before .before .before .before .before .args in
-    omega (arith, room (a .l .now) (a .n) (c .before .before .before .before .least .ensures) (c .before .before .gather .ensures .0))
+    omega (arith, room (a .l .now) (a .n) (c .before .before .before .before .smaller .ensures) (c .before .before .gather .ensures .0))
 
 mul-median-mad-sigma : tie.Need-mul-median-mad-sigma
 mul-median-mad-sigma c = search needs
@@ -28,7 +28,7 @@ part-median-mad-sigma-start c = search needs
 part-median-mad-sigma-end : tie.Need-part-median-mad-sigma-end
 part-median-mad-sigma-end c =
     let a = c .before .before .before .before .before .before .args in
-    omega (arith, room (a .l .now) (a .n) (c .before .before .before .before .least .ensures) (c .before .before .gather .ensures .0), c .before .before .gather .kept .0)
+    omega (arith, room (a .l .now) (a .n) (c .before .before .before .before .smaller .ensures) (c .before .before .gather .ensures .0), c .before .before .gather .kept .0)
 
 median-mad-sigma-requires : tie.Need-median-mad-sigma-requires
 median-mad-sigma-requires c κs = search needs
@@ -39,13 +39,13 @@ same-length c = search needs
 returns : tie.Need-returns
 returns c =
     let a = c .before .before .before .before .before .before .before .before .before .before .args in
-    measured (a .l .now) (a .n) (c .before .before .before .before .before .before .before .before .least .ensures) (c .before .before .before .before .before .before .gather .ensures .0) (c .before .before .before .before .before .before .gather .last .0) (c .before .before .median-mad-sigma .last .0) (c .before .before .before .before .before .before .gather .ensures .1) (c .before .before .median-mad-sigma .ensures)
+    measured (a .l .now) (a .n) (c .before .before .before .before .before .before .before .before .smaller .ensures) (c .before .before .before .before .before .before .gather .ensures .0) (c .before .before .before .before .before .before .gather .last .0) (c .before .before .median-mad-sigma .last .0) (c .before .before .before .before .before .before .gather .ensures .1) (c .before .before .median-mad-sigma .ensures)
 
 pub residual-median-sigma-spec : {M : Type 1} → statement M
 residual-median-sigma-spec =
     tie.close
     (tie.spec
-    least-requires
+    smaller-requires
     gather-requires
     add-to
     mul-median-mad-sigma

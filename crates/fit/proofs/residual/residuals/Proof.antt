@@ -58,8 +58,8 @@ direction-at-requires c κs = search needs
 residual-of-requires : tie.Need-residual-of-requires Inv-loop μ-loop
 residual-of-requires c κs = search needs
 
-put-requires : tie.Need-put-requires Inv-loop μ-loop
-put-requires c κs = search needs
+put-float-requires : tie.Need-put-float-requires Inv-loop μ-loop
+put-float-requires c κs = search needs
 
 in-front-requires : tie.Need-in-front-requires Inv-loop μ-loop
 in-front-requires c κs = search needs
@@ -79,8 +79,8 @@ loop-again c =
     let r = residuals-next _ _ _ _ _ (l .i) (c .before .before .before .before .before .before .before .before .before .before .loop-test .taken) (c .before .before .before .before .before .before .before .before .spot-at .ensures) (c .before .before .before .before .before .before .direction-at .ensures) (c .before .before .before .before .before .residual-of .ensures) in (
       search needs,
       omega (arith, c .in-front .ensures .0),
-      c .before .before .before .put .kept .0 ∙ l .inv .2,
-      written-next (l .out) (l .i) r (c .before .before .before .put .ensures) (l .inv .3),
+      c .before .before .before .put-float .kept .0 ∙ l .inv .2,
+      written-next (l .out) (l .i) r (c .before .before .before .put-float .ensures) (l .inv .3),
       counted-next (l .count) r (c .in-front .ensures .1) (l .inv .4),
     )
 
@@ -111,7 +111,7 @@ residuals-spec =
     shared-slice-read-direction-at
     direction-at-requires
     residual-of-requires
-    put-requires
+    put-float-requires
     in-front-requires
     add-count
     add-i

@@ -24,44 +24,44 @@ module _ (np marked t : ℕ) (w : List ℕ) (a b : ℕ) where
   unfolding offered
   second-marked p q = rw (eq-eqb (getD w a 0) 0 p, ne-eqb (getD w (np + b) 0) 0 q)
 
-at-requires : tie.Need-at-requires
-at-requires c κs = search needs
+number-at-requires : tie.Need-number-at-requires
+number-at-requires c κs = search needs
 
-add-at : tie.Need-add-at
-add-at c = search needs
+add-number-at : tie.Need-add-number-at
+add-number-at c = search needs
 
-at-requires-2 : tie.Need-at-requires-2
-at-requires-2 c κs = search needs
+number-at-requires-2 : tie.Need-number-at-requires-2
+number-at-requires-2 c κs = search needs
 
-put-requires : tie.Need-put-requires
-put-requires c κs = search needs
+put-number-requires : tie.Need-put-number-requires
+put-number-requires c κs = search needs
 
-add-put : tie.Need-add-put
-add-put c = search needs
+add-put-number : tie.Need-add-put-number
+add-put-number c = search needs
 
-put-requires-2 : tie.Need-put-requires-2
-put-requires-2 c κs = search needs
+put-number-requires-2 : tie.Need-put-number-requires-2
+put-number-requires-2 c κs = search needs
 
-mul-put : tie.Need-mul-put
-mul-put c = search needs
+mul-put-number : tie.Need-mul-put-number
+mul-put-number c = search needs
 
-add-put-2 : tie.Need-add-put-2
-add-put-2 c = search needs
+add-put-number-2 : tie.Need-add-put-number-2
+add-put-number-2 c = search needs
 
-put-requires-3 : tie.Need-put-requires-3
-put-requires-3 c κs = search needs
+put-number-requires-3 : tie.Need-put-number-requires-3
+put-number-requires-3 c κs = search needs
 
-mul-put-2 : tie.Need-mul-put-2
-mul-put-2 c = search needs
+mul-put-number-2 : tie.Need-mul-put-number-2
+mul-put-number-2 c = search needs
 
-add-put-3 : tie.Need-add-put-3
-add-put-3 c = search needs
+add-put-number-3 : tie.Need-add-put-number-3
+add-put-number-3 c = search needs
 
-add-put-4 : tie.Need-add-put-4
-add-put-4 c = search needs
+add-put-number-4 : tie.Need-add-put-number-4
+add-put-number-4 c = search needs
 
-put-requires-4 : tie.Need-put-requires-4
-put-requires-4 c κs = search needs
+put-number-requires-4 : tie.Need-put-number-requires-4
+put-number-requires-4 c κs = search needs
 
 add-result : tie.Need-add-result
 add-result c = search needs
@@ -79,9 +79,9 @@ returns c =
     let t1 = t2 .before .before .before in
     let x = t1 .before .before .before .before in (
       omega arith,
-      rw (p2 .put4 .ensures, p3 .put3 .ensures, p4 .put2 .ensures, p1 .put .ensures)
+      rw (p2 .put-number4 .ensures, p3 .put-number3 .ensures, p4 .put-number2 .ensures, p1 .put-number .ensures)
           (both-free (x .args .np) (x .args .marked) (x .args .t) (x .args .work .now) (x .args .spot) (x .args .prediction)
-          (sym (t1 .before .at .ensures) ∙ t1 .if1 .taken) (sym (t2 .before .at2 .ensures) ∙ t2 .if2 .taken)),
+          (sym (t1 .before .number-at .ensures) ∙ t1 .if1 .taken) (sym (t2 .before .number-at2 .ensures) ∙ t2 .if2 .taken)),
     )
 
 same-length-2 : tie.Need-same-length-2
@@ -92,8 +92,8 @@ returns-2 c =
     let x = c .before .before .before .before .before .before .before in (
       omega arith,
       second-marked (x .args .np) (x .args .marked) (x .args .t) (x .args .work .now) (x .args .spot) (x .args .prediction)
-          (sym (c .before .before .before .before .at .ensures) ∙ c .before .before .before .if1 .taken)
-          (λ q. c .if2 .left (c .before .at2 .ensures ∙ q)),
+          (sym (c .before .before .before .before .number-at .ensures) ∙ c .before .before .before .if1 .taken)
+          (λ q. c .if2 .left (c .before .number-at2 .ensures ∙ q)),
     )
 
 same-length-3 : tie.Need-same-length-3
@@ -104,26 +104,26 @@ returns-3 c =
     let x = c .before .before .before .before in (
       omega arith,
       first-marked (x .args .np) (x .args .marked) (x .args .t) (x .args .work .now) (x .args .spot) (x .args .prediction)
-          (λ q. c .if1 .left (c .before .at .ensures ∙ q)),
+          (λ q. c .if1 .left (c .before .number-at .ensures ∙ q)),
     )
 
 pub offer-spec : {M : Type 1} → statement M
 offer-spec =
     tie.close
     (tie.spec
-    at-requires
-    add-at
-    at-requires-2
-    put-requires
-    add-put
-    put-requires-2
-    mul-put
-    add-put-2
-    put-requires-3
-    mul-put-2
-    add-put-3
-    add-put-4
-    put-requires-4
+    number-at-requires
+    add-number-at
+    number-at-requires-2
+    put-number-requires
+    add-put-number
+    put-number-requires-2
+    mul-put-number
+    add-put-number-2
+    put-number-requires-3
+    mul-put-number-2
+    add-put-number-3
+    add-put-number-4
+    put-number-requires-4
     add-result
     same-length
     returns

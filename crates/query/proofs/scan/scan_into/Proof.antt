@@ -42,8 +42,8 @@ module _ (ds : List Float) (least : Float) (o : List ℕ) (n : ℕ) (x y z : Flo
         list = front-whole k m o w r;
       }
 
-lesser-requires : tie.Need-lesser-requires Inv-loop μ-loop
-lesser-requires c κs = search needs
+smaller-requires : tie.Need-smaller-requires Inv-loop μ-loop
+smaller-requires c κs = search needs
 
 array-read-x : tie.Need-array-read-x Inv-loop μ-loop
 array-read-x c = search needs
@@ -56,9 +56,9 @@ array-read-z c = search needs
 
 loop-holds : tie.Need-loop-holds Inv-loop μ-loop
 loop-holds c =
-    let n = c .lesser .result in
+    let n = c .smaller .result in
     let e : n - 0 ≡ n = omega arith in
-    (search needs, search needs, omega (arith, c .lesser .ensures), omega (arith, c .lesser .ensures), rw e (begin 0 _ _))
+    (search needs, search needs, omega (arith, c .smaller .ensures), omega (arith, c .smaller .ensures), rw e (begin 0 _ _))
 
 mul-at : tie.Need-mul-at Inv-loop μ-loop
 mul-at c = search needs
@@ -107,7 +107,7 @@ unfolding dot32 directionAt
 loop-again c =
     let s = c .before .before .before .before .before .before in
     let a = s .before .before .before .args in
-    let n = s .lesser .result in
+    let n = s .smaller .result in
     let l = c .before .before .before .before .before .loop in
     let h = c .before .before .before .before .loop-test .taken in
     ⊎-elim
@@ -128,9 +128,9 @@ returns : tie.Need-returns Inv-loop μ-loop
 returns c =
     let s = c .before .before in
     let a = s .before .before .before .args in
-    let n = s .lesser .result in
+    let n = s .smaller .result in
     let l = c .before .loop in
-    rw (← s .lesser .ensures, ← by-parts (a .directions .now) (a .t2) (a .least) 0 n)
+    rw (← s .smaller .ensures, ← by-parts (a .directions .now) (a .t2) (a .least) 0 n)
     (ended (a .directions .now) (a .least) (a .out .now) n (at (a .t2) 0) (at (a .t2) 1) (at (a .t2) 2) (l .out) (l .k) (l .j) (l .inv) (search needs))
 
 pub scan-into-spec : {M : Type 1} → statement M
@@ -139,7 +139,7 @@ scan-into-spec =
     (tie.spec
     Inv-loop
     μ-loop
-    lesser-requires
+    smaller-requires
     array-read-x
     array-read-y
     array-read-z

@@ -1,0 +1,25 @@
+-- `put_number` stores at a place, and nowhere past the end.
+use mathlib.Core.Path.{sym}
+use lib.Seq.{set-out}
+use borrow.Author.Needs.{needs}
+use Rattle.lists.proofs.put_number.Statement.{statement}
+use Rattle.lists.proofs.put_number.Tie as tie
+
+mul-s : tie.Need-mul-s
+mul-s c = search needs
+
+slice-write-s : tie.Need-slice-write-s
+slice-write-s c = search needs
+
+same-length : tie.Need-same-length
+same-length c = search needs
+
+returns : tie.Need-returns
+returns c = search needs
+
+returns-2 : tie.Need-returns-2
+returns-2 c =
+    sym (set-out (c .before .args .s .now) (c .before .args .i) (c .before .args .x) (c .if1 .left))
+
+pub put-number-spec : {M : Type 1} → statement M
+put-number-spec = tie.close (tie.spec mul-s slice-write-s same-length returns returns-2)

@@ -1,0 +1,9 @@
+pub mod Elements
+pub mod Laying
+pub mod Floats
+pub mod Monotone
+pub mod Covered
+pub mod Rearranged
+pub mod Pushing
+pub mod Threads
+pub mod Nearby

@@ -1,0 +1,4 @@
+pub mod Pairs
+pub mod Elements
+pub mod Candidates
+pub mod Strips
