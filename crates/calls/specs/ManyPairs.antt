@@ -11,12 +11,12 @@ use Rattle.stats.specs.declared.MedianSigma.{MedianSigma}
 use Rattle.project.specs.Camera.{boresight, cameraRows}
 use Rattle.fit.specs.Rows.{Row, rowOf, rows, View, viewOf}
 use Rattle.fit.specs.Normal.{noMatches, withRows, normalMatrix, solvedSums}
-use Rattle.fit.specs.Residual.{residuals, inFront, madClipMatches}
+use Rattle.residuals.specs.Residual.{residuals, inFront, madClipMatches}
 use Rattle.solve.specs.Covariance.{covarianceFromNormal}
 use Rattle.project.specs.Project.{cdFromTheta}
 use Rattle.fit.specs.declared.Pose.{Pose}
 use Rattle.fit.specs.declared.Counted.{Counted}
-use Rattle.fit.specs.declared.Clip.the-variants.{Kept, Unchanged}
+use Rattle.residuals.specs.declared.Clip.the-variants.{Kept, Unchanged}
 use Rattle.entry.specs.Arguments.{Call}
 use Rattle.entry.specs.Check.{refusal}
 use Rattle.entry.specs.Fixed.{Fixed, fixed}

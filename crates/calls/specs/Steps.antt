@@ -12,13 +12,13 @@ use Rattle.stats.specs.declared.MedianSigma.{MedianSigma}
 use Rattle.project.specs.Camera.{boresight, cameraRows}
 use Rattle.fit.specs.Rows.{Row, rows, View, viewOf}
 use Rattle.fit.specs.Normal.{noMatches, withRows, normalMatrix, solvedSums, lsFitOnce}
-use Rattle.fit.specs.Residual.{residuals, inFront, madClipMatches}
+use Rattle.residuals.specs.Residual.{residuals, inFront, madClipMatches}
 use Rattle.solve.specs.Covariance.{covarianceFromNormal}
 use Rattle.project.specs.Project.{cdFromTheta}
 use Rattle.fit.specs.declared.Pose.{Pose}
 use Rattle.fit.specs.declared.Counted.{Counted}
-use Rattle.fit.specs.declared.Clip.{Clip}
-use Rattle.fit.specs.declared.Clip.the-variants.{Kept, Unchanged}
+use Rattle.residuals.specs.declared.Clip.{Clip}
+use Rattle.residuals.specs.declared.Clip.the-variants.{Kept, Unchanged}
 use Rattle.solve.specs.declared.Solution.{Solution}
 use Rattle.solve.specs.declared.Solution.the-variants.{Solved, Failed}
 use Rattle.entry.specs.Arguments.{Call}

@@ -16,11 +16,11 @@ use Rattle.pairs.specs.Pairs.{pairs, pairsFrom, pairsOf, within, squared, point
 use Rattle.matching.specs.Merge.{merged, mergeRuns, mergeNeighbours, merge, into, singles, notAfter}
 use Rattle.matching.specs.Greedy.{matchesOf, assigned, clashes, Match}
 use Rattle.solve.specs.Solve.{solve3x3, solvedFrom, substituted, divides, ifFinite, solutionX, solutionY, solutionZ, eliminated, reduced, minusFrom, swapped, usable, pivotOf, bestFrom, better, beside}
-use Rattle.fit.specs.Residual.{madClipMatches, kept, keptFrom, keeps, thresholdOf, Clipped}
+use Rattle.residuals.specs.Residual.{madClipMatches, kept, keptFrom, keeps, thresholdOf, Clipped}
 use Rattle.solve.specs.declared.Solution.{Solution}
 use Rattle.solve.specs.declared.Solution.the-variants.{Solved, Failed}
-use Rattle.fit.specs.declared.Clip.{Clip}
-use Rattle.fit.specs.declared.Clip.the-variants.{Kept, Unchanged}
+use Rattle.residuals.specs.declared.Clip.{Clip}
+use Rattle.residuals.specs.declared.Clip.the-variants.{Kept, Unchanged}
 use Rattle.record.specs.Number.{written, number}
 use Rattle.record.specs.declared.Numbered.{Numbered}
 use Rattle.record.specs.declared.Numbered.the-variants.{Got, Short, Wrong}

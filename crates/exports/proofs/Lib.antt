@@ -1,3 +1,2 @@
-pub mod Lacking
 pub mod Exported
 pub mod Reader

@@ -8,25 +8,16 @@ ghost use Rattle.exports.specs.Refined.{rowsOf, counts, values, setFrom,
 use fit::Pose;
 use lists::put_float;
 use lists::put_number;
+use lists::single_at;
 use wcs_refine::WcsRefineResult;
 
-// The rotation's entry at a place; a place that the list lacks is no number, and refused as such.
-fn entry_at(rotation: &[f32], i: usize) -> f32
-    ensures { λ r. ⌜ r ≡ getD (now (rotation .entry)) i nan ⌝ }
-{
-    if i < rotation.len() {
-        return rotation[i];
-    }
-    0.0 / 0.0
-}
-
-// Three entries as a row of the rotation.
+// Three entries as a row of the rotation; a place that the list lacks is no number, and refused as such.
 fn row_at(rotation: &[f32], i: usize, j: usize, k: usize) -> [f32; 3]
     ensures { λ r. ⌜ r ≡ getD (now (rotation .entry)) i nan ∷ getD (now (rotation .entry)) j nan ∷ getD (now (rotation .entry)) k nan ∷ [] ⌝ }
 {
-    let x = entry_at(rotation, i);
-    let y = entry_at(rotation, j);
-    let z = entry_at(rotation, k);
+    let x = single_at(rotation, i);
+    let y = single_at(rotation, j);
+    let z = single_at(rotation, k);
     [x, y, z]
 }
 

@@ -1,5 +1,2 @@
 pub mod Lookup
 pub mod Summing
-pub mod Distances
-pub mod Kept
-pub mod Gathered

@@ -1,20 +1,13 @@
-// The lower half of wcs_refine.rs above projections and solver: normal equations, residuals and clip.
+// The fit of wcs_refine.rs: what a match brings to it, the normal equations, and one pass.
 mod rows; // rows.rt: what a match brings to the fit
 mod normal; // normal.rt: the normal equations, and one pass of the fit
-mod residual; // residual.rt: what is left between the spots and the directions
-mod clipping; // clipping.rt: the matches that lie too far off
 
-pub use clipping::mad_clip_matches;
 pub use normal::accumulate_normal_equations;
 pub use normal::ls_fit_once;
 pub use normal::normal_matrix;
-pub use residual::compute_residuals;
-pub use residual::residual_median_sigma;
 pub use rows::direction_at;
 pub use rows::spot_at;
-
-// Stands in the place of the residual of a match on or behind the plane. A residual is a square root, and never below zero.
-pub const NO_RESIDUAL: f64 = -1.0;
+pub use rows::turn_of;
 
 // The pose: roll, the boresight's right ascension and declination, and the pixel scale, in radians and radians per pixel.
 pub struct Pose {
@@ -50,10 +43,4 @@ pub struct Sums {
 pub struct Counted {
     pub sums: Sums,
     pub n: usize,
-}
-
-// How many matches a clip left, or that it had no effect.
-pub enum Clip {
-    Kept(usize),
-    Unchanged,
 }

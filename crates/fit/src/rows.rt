@@ -2,25 +2,14 @@
 // that every index has a spot and a direction.
 ghost use mathlib.Core.Path.{_≡_};
 ghost use Prim.Native.Nat.{_≤_, _/_};
-ghost use lib.Ieee.{nan};
-ghost use lib.ListN.{getD, length};
+ghost use lib.ListN.{length};
 ghost use Rattle.fit.specs.Rows.{spotAt, directionAt, turnOf};
 use crate::Pose;
 use crate::Spot;
 use crate::Turn;
 use angles::sin_cos;
-
-pub fn float_at(s: &[f64], i: usize) -> f64
-    ensures { λ r. ⌜ r ≡ getD (now (s .entry)) i nan ⌝ }
-{
-    if i < s.len() { s[i] } else { 0.0 / 0.0 }
-}
-
-fn single_at(s: &[f32], i: usize) -> f32
-    ensures { λ r. ⌜ r ≡ getD (now (s .entry)) i nan ⌝ }
-{
-    if i < s.len() { s[i] } else { 0.0 / 0.0 }
-}
+use lists::float_at;
+use lists::single_at;
 
 // The spot i of a flat list, x then y.
 pub fn spot_at(spots: &[f64], i: usize) -> Spot

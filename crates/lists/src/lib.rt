@@ -1,7 +1,7 @@
 // Reads, writes and clearings of lent lists that ask nothing of their place.
 ghost use mathlib.Core.Path.{_≡_};
 ghost use Prim.Native.Nat.{min};
-ghost use lib.Ieee.{binary64, ofBits};
+ghost use lib.Ieee.{binary64, nan, ofBits};
 ghost use lib.ListN.{getD, set};
 ghost use Rattle.lists.specs.Cleared.{cleared};
 
@@ -16,6 +16,19 @@ pub fn number_at(s: &[usize], i: usize) -> usize
     ensures { λ r. ⌜ r ≡ getD (now (s .entry)) i 0 ⌝ }
 {
     if i < s.len() { s[i] } else { 0 }
+}
+
+// A float past the end reads as NaN.
+pub fn float_at(s: &[f64], i: usize) -> f64
+    ensures { λ r. ⌜ r ≡ getD (now (s .entry)) i nan ⌝ }
+{
+    if i < s.len() { s[i] } else { 0.0 / 0.0 }
+}
+
+pub fn single_at(s: &[f32], i: usize) -> f32
+    ensures { λ r. ⌜ r ≡ getD (now (s .entry)) i nan ⌝ }
+{
+    if i < s.len() { s[i] } else { 0.0 / 0.0 }
 }
 
 // Past the end nothing is stored.

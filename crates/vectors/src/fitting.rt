@@ -86,8 +86,8 @@ fn compute_residuals(
     pose: Pose,
     e: &[usize],
 ) -> usize {
-    let mut residuals = [fit::NO_RESIDUAL; 32];
-    let n = fit::compute_residuals(
+    let mut residuals = [residuals::NO_RESIDUAL; 32];
+    let n = residuals::compute_residuals(
         matches,
         directions,
         spots,
@@ -110,7 +110,7 @@ fn same_residuals(e: &[usize], from: usize, residuals: &[f64]) -> usize {
 }
 
 fn same_residual(e: &[usize], to: usize, i: usize, x: f64) -> usize {
-    if x == fit::NO_RESIDUAL {
+    if x == residuals::NO_RESIDUAL {
         return to;
     }
     same64(e, same(e, to, i), x)

@@ -9,7 +9,7 @@ use crate::word::f64_at;
 use crate::word::place;
 use crate::word::same;
 use crate::word::same_pair;
-use fit::Clip;
+use residuals::Clip;
 use stats::MedianSigma;
 
 pub(crate) fn answer(name: &[u8], a: &[usize], e: &[usize]) -> usize {
@@ -39,7 +39,7 @@ fn median_mad_sigma(a: &[usize]) -> MedianSigma {
 fn residual_median_sigma(a: &[usize]) -> MedianSigma {
     let mut values = [0.0f64; 64];
     floats(a, 2, 2, &mut values);
-    fit::residual_median_sigma(&mut values, count_at(a, 0))
+    residuals::residual_median_sigma(&mut values, count_at(a, 0))
 }
 
 // The residuals with their matches' numbers, the matches, the median and sigma.
@@ -47,11 +47,11 @@ fn mad_clip_matches(a: &[usize], e: &[usize]) -> usize {
     let r = count_at(a, 0);
     let to = 2 + 2 * r;
     let m = 2 * count_at(a, 1 + 2 * r);
-    let mut marked = [fit::NO_RESIDUAL; 32];
+    let mut marked = [residuals::NO_RESIDUAL; 32];
     mark(a, r, &mut marked);
     let mut matches = [0usize; 64];
     copy(a, to, &mut matches);
-    let c = fit::mad_clip_matches(
+    let c = residuals::mad_clip_matches(
         &marked,
         &mut matches[0..m],
         f64_at(a, to + m),

@@ -12,10 +12,10 @@ use lib.Seq.{take-at, take-append-le, length-take-le}
 use lib.Ieee.{Float}
 use Rattle.fit.specs.Normal.{lsFitOnce}
 use Rattle.fit.specs.Rows.{Row, rows, View, viewOf}
-use Rattle.fit.specs.Residual.{residualOf, residuals, inFront, over, Computed, Clipped, clipped as clippedTo, madClipMatches}
+use Rattle.residuals.specs.Residual.{residualOf, residuals, inFront, over, Computed, Clipped, clipped as clippedTo, madClipMatches}
 use Rattle.fit.specs.declared.Pose.{Pose}
-use Rattle.fit.specs.declared.Clip.{Clip}
-use Rattle.fit.specs.declared.Clip.the-variants.{Kept, Unchanged}
+use Rattle.residuals.specs.declared.Clip.{Clip}
+use Rattle.residuals.specs.declared.Clip.the-variants.{Kept, Unchanged}
 use Rattle.solve.specs.declared.Solution.{Solution}
 use Rattle.solve.specs.declared.Solution.the-variants.{Solved, Failed}
 use Rattle.entry.specs.Fixed.{Fixed}

@@ -12,9 +12,9 @@ use lib.Ieee.{Float}
 use Rattle.rounding.specs.Arith.{zero64}
 use Rattle.stats.specs.Median.{medianMadSigma}
 use Rattle.stats.specs.declared.MedianSigma.{MedianSigma}
-use Rattle.fit.specs.Residual.{inFront, leading, residualMedianSigma, Measured, Clipped, clipped as clippedTo, kept, madClipMatches}
-use Rattle.fit.specs.declared.Clip.{Clip}
-use Rattle.fit.specs.declared.Clip.the-variants.{Kept, Unchanged}
+use Rattle.residuals.specs.Residual.{inFront, leading, residualMedianSigma, Measured, Clipped, clipped as clippedTo, kept, madClipMatches}
+use Rattle.residuals.specs.declared.Clip.{Clip}
+use Rattle.residuals.specs.declared.Clip.the-variants.{Kept, Unchanged}
 use Rattle.wcs_refine.specs.Clip.{Statistics, none, some, statistics, taken, clipped}
 use Rattle.wcs_refine.specs.Cleaning.{statsOf, Statted, ClippedTo}
 use Rattle.wcs_refine.specs.declared.clipping.Stats.{Stats}

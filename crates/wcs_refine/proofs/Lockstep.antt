@@ -12,7 +12,7 @@ use Rattle.pairs.specs.Pairs.{pairs, spotsWithin}
 use Rattle.matching.specs.Greedy.{matchesOf}
 use Rattle.project.specs.Camera.{boresight, cameraRows}
 use Rattle.fit.specs.Rows.{Row, rows, viewOf}
-use Rattle.fit.specs.Residual.{residuals}
+use Rattle.residuals.specs.Residual.{residuals}
 use Rattle.fit.specs.declared.Pose.{Pose}
 use Rattle.entry.specs.Fixed.{Fixed}
 use Rattle.passes.specs.Fit.{Passes, fitPasses}

@@ -12,10 +12,10 @@ use Rattle.pairs.specs.Pairs.{pairs}
 use Rattle.matching.specs.Greedy.{matchesOf}
 use Rattle.project.specs.Camera.{boresight, cameraRows}
 use Rattle.fit.specs.Rows.{Row, rows, viewOf}
-use Rattle.fit.specs.Residual.{residuals, madClipMatches}
+use Rattle.residuals.specs.Residual.{residuals, madClipMatches}
 use Rattle.fit.specs.declared.Pose.{Pose}
-use Rattle.fit.specs.declared.Clip.{Clip}
-use Rattle.fit.specs.declared.Clip.the-variants.{Kept, Unchanged}
+use Rattle.residuals.specs.declared.Clip.{Clip}
+use Rattle.residuals.specs.declared.Clip.the-variants.{Kept, Unchanged}
 use Rattle.entry.specs.Fixed.{Fixed}
 use Rattle.passes.specs.Fit.{Passes, fitPasses}
 use Rattle.wcs_refine.specs.Clip.{Statistics, none, some, statistics, taken, clipped}

@@ -12,9 +12,9 @@ use lib.Ieee.{Float, nan, le}
 use Rattle.pairs.specs.Pairs.{Pair, Point, pointAt, squared, within, pairsOf, pairsFrom, pairs, spotsWithin}
 use Rattle.matching.specs.Merge.{notAfter, into, merge, mergeNeighbours, mergeRuns, singles, merged}
 use Rattle.matching.specs.Greedy.{Match, clashes, assigned, matchesOf}
-use Rattle.fit.specs.Residual.{keeps, keptFrom, thresholdOf, kept, Clipped, madClipMatches}
+use Rattle.residuals.specs.Residual.{keeps, keptFrom, thresholdOf, kept, Clipped, madClipMatches}
 use Rattle.fit.specs.Rows.{directionAt}
-use Rattle.fit.specs.declared.Clip.the-variants.{Kept, Unchanged}
+use Rattle.residuals.specs.declared.Clip.the-variants.{Kept, Unchanged}
 use Rattle.entry.specs.Fixed.{Fixed, pruneR, keepR}
 use Rattle.wcs_refine.specs.Clip.{Statistics, none, some, taken, clipped}
 use Rattle.query.specs.Query.{Prediction, predicted, reaches, predictions, pruned}

@@ -15,7 +15,7 @@ use Rattle.solve.specs.Constants.{minusOne}
 use Rattle.solve.specs.Covariance.{unconstrained, fromColumns, covarianceFromNormal}
 use Rattle.fit.specs.Normal.{normalMatrix}
 use Rattle.project.specs.Project.{cdFromTheta}
-use Rattle.fit.specs.Residual.{inFront, residuals}
+use Rattle.residuals.specs.Residual.{inFront, residuals}
 use Rattle.fit.specs.Rows.{Row, viewOf}
 use Rattle.solve.specs.Solve.{solve3x3}
 use Rattle.fit.specs.declared.Counted.{Counted}

@@ -10,7 +10,7 @@ use lib.Ieee.{Float}
 use Rattle.rounding.specs.Arith.{_⊗_, _⊘_, f64}
 use Rattle.rounding.specs.Methods.{maxF, minF}
 use Rattle.fit.specs.Rows.{rows}
-use Rattle.fit.specs.Residual.{inFront, Computed}
+use Rattle.residuals.specs.Residual.{inFront, Computed}
 use Rattle.fit.specs.declared.Pose.{Pose}
 use Rattle.entry.specs.declared.Settings.{Settings}
 use Rattle.entry.specs.Fixed.{radiusPx}

@@ -13,7 +13,7 @@ use Rattle.matching.specs.Greedy.{matchesOf}
 use Rattle.project.specs.Camera.{boresight, cameraRows}
 use Rattle.fit.specs.Normal.{lsFitOnce}
 use Rattle.fit.specs.Rows.{Row, rows, viewOf}
-use Rattle.fit.specs.Residual.{residuals}
+use Rattle.residuals.specs.Residual.{residuals}
 use Rattle.fit.specs.declared.Pose.{Pose}
 use Rattle.solve.specs.declared.Solution.{Solution}
 use Rattle.solve.specs.declared.Solution.the-variants.{Solved, Failed}

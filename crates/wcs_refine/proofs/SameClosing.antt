@@ -8,12 +8,12 @@ use lib.ListN.{length}
 use lib.Ieee.{Float}
 use Rattle.fit.specs.Rows.{Row, rows, viewOf}
 use Rattle.fit.specs.Normal.{lsFitOnce}
-use Rattle.fit.specs.Residual.{residuals, madClipMatches}
+use Rattle.residuals.specs.Residual.{residuals, madClipMatches}
 use Rattle.fit.specs.declared.Pose.{Pose}
 use Rattle.solve.specs.declared.Solution.{Solution}
 use Rattle.solve.specs.declared.Solution.the-variants.{Solved, Failed}
-use Rattle.fit.specs.declared.Clip.{Clip}
-use Rattle.fit.specs.declared.Clip.the-variants.{Kept, Unchanged}
+use Rattle.residuals.specs.declared.Clip.{Clip}
+use Rattle.residuals.specs.declared.Clip.the-variants.{Kept, Unchanged}
 use Rattle.entry.specs.Fixed.{Fixed}
 use Rattle.passes.specs.Fit.{moved, sound}
 use Rattle.wcs_refine.specs.Clip.{Statistics, none, some, statistics, taken}

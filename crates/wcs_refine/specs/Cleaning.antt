@@ -8,12 +8,12 @@ use lib.ListN.{length, take}
 use lib.Ieee.{Float}
 use Rattle.fit.specs.Rows.{rows, viewOf}
 use Rattle.fit.specs.Normal.{lsFitOnce}
-use Rattle.fit.specs.Residual.{residuals, Clipped, madClipMatches}
+use Rattle.residuals.specs.Residual.{residuals, Clipped, madClipMatches}
 use Rattle.solve.specs.Covariance.{covarianceFromNormal}
 use Rattle.fit.specs.declared.Counted.{Counted}
 use Rattle.fit.specs.declared.Pose.{Pose}
-use Rattle.fit.specs.declared.Clip.{Clip}
-use Rattle.fit.specs.declared.Clip.the-variants.{Kept, Unchanged}
+use Rattle.residuals.specs.declared.Clip.{Clip}
+use Rattle.residuals.specs.declared.Clip.the-variants.{Kept, Unchanged}
 use Rattle.entry.specs.Fixed.{Fixed}
 use Rattle.wcs_refine.specs.Closing.{Closed, unsound, fine, refitted, cleaned, Report}
 use Rattle.wcs_refine.specs.Clip.{Statistics, none, some, statistics, clipped}

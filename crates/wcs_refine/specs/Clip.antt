@@ -7,9 +7,9 @@ use lib.ListN.{length, take}
 use lib.Ieee.{Float}
 use Rattle.stats.specs.Median.{medianMadSigma}
 use Rattle.stats.specs.declared.MedianSigma.{MedianSigma}
-use Rattle.fit.specs.Residual.{inFront, madClipMatches}
-use Rattle.fit.specs.declared.Clip.{Clip}
-use Rattle.fit.specs.declared.Clip.the-variants.{Kept, Unchanged}
+use Rattle.residuals.specs.Residual.{inFront, madClipMatches}
+use Rattle.residuals.specs.declared.Clip.{Clip}
+use Rattle.residuals.specs.declared.Clip.the-variants.{Kept, Unchanged}
 
 -- Phase B: statistics of the residuals, where at least 6 matches have one.
 pub data Statistics : Type 0 where

@@ -11,13 +11,13 @@ use Rattle.rounding.specs.Root.{root}
 use Rattle.project.specs.Project.{cdFromTheta}
 use Rattle.fit.specs.Rows.{Row, rows, View, viewOf}
 use Rattle.fit.specs.Normal.{lsFitOnce, normalMatrix}
-use Rattle.fit.specs.Residual.{residuals, inFront, madClipMatches}
+use Rattle.residuals.specs.Residual.{residuals, inFront, madClipMatches}
 use Rattle.solve.specs.Covariance.{covarianceFromNormal}
 use Rattle.fit.specs.declared.Pose.{Pose}
 use Rattle.solve.specs.declared.Solution.{Solution}
 use Rattle.solve.specs.declared.Solution.the-variants.{Solved, Failed}
-use Rattle.fit.specs.declared.Clip.{Clip}
-use Rattle.fit.specs.declared.Clip.the-variants.{Kept, Unchanged}
+use Rattle.residuals.specs.declared.Clip.{Clip}
+use Rattle.residuals.specs.declared.Clip.the-variants.{Kept, Unchanged}
 use Rattle.fit.specs.declared.Counted.{Counted}
 use Rattle.entry.specs.Fixed.{Fixed}
 use Rattle.passes.specs.Fit.{moved, sound}

@@ -10,7 +10,7 @@ use Rattle.pairs.specs.Pairs.{pairs}
 use Rattle.matching.specs.Greedy.{matchesOf}
 use Rattle.project.specs.Camera.{boresight, cameraRows}
 use Rattle.fit.specs.Rows.{Row, rows, viewOf}
-use Rattle.fit.specs.Residual.{residuals}
+use Rattle.residuals.specs.Residual.{residuals}
 use Rattle.fit.specs.declared.Pose.{Pose}
 use Rattle.entry.specs.Fixed.{Fixed}
 use Rattle.passes.specs.Fit.{Passes, fitPasses}

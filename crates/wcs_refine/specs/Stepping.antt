@@ -6,7 +6,7 @@ use mathlib.Core.List.{List}
 use lib.ListN.{length, take}
 use lib.Ieee.{Float}
 use Rattle.fit.specs.Rows.{rows, viewOf}
-use Rattle.fit.specs.Residual.{residuals}
+use Rattle.residuals.specs.Residual.{residuals}
 use Rattle.fit.specs.declared.Pose.{Pose}
 use Rattle.entry.specs.declared.Settings.{Settings}
 use Rattle.entry.specs.Entry.{fixedOf}

@@ -2,11 +2,11 @@
 ghost use mathlib.Core.Path.{_≡_};
 ghost use Prim.Native.Nat.{_*_, _%_, _≤_};
 ghost use lib.ListN.{length, take};
-ghost use Rattle.fit.specs.Residual.{inFront};
+ghost use Rattle.residuals.specs.Residual.{inFront};
 ghost use Rattle.wcs_refine.specs.Cleaning.{Statted, ClippedTo};
-use fit::Clip;
-use fit::mad_clip_matches;
-use fit::residual_median_sigma;
+use residuals::Clip;
+use residuals::mad_clip_matches;
+use residuals::residual_median_sigma;
 
 // The fewest residuals that have statistics.
 const FEWEST_RESIDUALS: usize = 6;

@@ -17,9 +17,9 @@ use crate::searching::search;
 use entry::Settings;
 use entry::radius_px;
 use fit::Pose;
-use fit::compute_residuals;
 use passes::fit_passes;
 use query::Held;
+use residuals::compute_residuals;
 use rounding::max;
 use rounding::min;
 

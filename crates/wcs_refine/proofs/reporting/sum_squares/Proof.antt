@@ -7,7 +7,7 @@ use lib.ListN.{length, getD, drop}
 use lib.Ieee.{nan, eq, ne}
 use Rattle.rounding.specs.Arith.{zero64}
 use Rattle.solve.specs.Constants.{minusOne}
-use Rattle.fit.specs.Residual.{inFront}
+use Rattle.residuals.specs.Residual.{inFront}
 use Rattle.wcs_refine.specs.Closing.{sumSquares}
 use Rattle.wcs_refine.proofs.ReportSteps.{squares-more, squares-same, squares-done}
 use borrow.Author.Needs.{needs}
