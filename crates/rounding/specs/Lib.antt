@@ -3,6 +3,7 @@ pub mod Narrow
 pub mod Pattern
 pub mod Rounded
 pub mod Ieee754
+pub mod Table
 pub mod Methods
 pub mod Arith
 pub mod TotalOrder

@@ -25,10 +25,11 @@ isFinite nan = false
 isFinite (inf s) = false
 isFinite (fin s m e) = true
 
--- a.max(b) and a.min(b): the other where one is a NaN, and a where they are equal.
+-- a.max(b): the other where one is a NaN, and a where they are equal.
 unfoldable pub maxF : Float → Float → Float
 maxF a b = cond (isNan a) b (cond (lt a b) b a)
 
+-- a.min(b), the same.
 unfoldable pub minF : Float → Float → Float
 minF a b = cond (isNan a) b (cond (lt b a) b a)
 

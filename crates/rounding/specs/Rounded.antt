@@ -59,16 +59,20 @@ pub record RoundedFloat (f : Format) (Under Over : ℕ → Type 0) (s : Bool) (r
   pub infinite : Under (largest f + overflow f) → r ≡ inf s
   pub finite : (Under (largest f + overflow f) → ⊥) → (g : ℕ) × NearestFloat f Under Over s r g
 
--- ---- the numbers that are rounded here, each in units: the fraction n / d, and the root of n / d
+-- ---- the numbers that are rounded here, each in units
 
+-- t / 2 is at most the fraction n / d,
 abbrev pub FractionUnder : ℕ → ℕ → ℕ → Type 0
 FractionUnder n d t = t * d ≤ 2 * n
 
+-- and at least it.
 abbrev pub FractionOver : ℕ → ℕ → ℕ → Type 0
 FractionOver n d t = 2 * n ≤ t * d
 
+-- t / 2 is at most the root of n / d: its square is at most n / d,
 abbrev pub RootUnder : ℕ → ℕ → ℕ → Type 0
 RootUnder n d t = t * t * d ≤ 4 * n
 
+-- and at least it.
 abbrev pub RootOver : ℕ → ℕ → ℕ → Type 0
 RootOver n d t = 4 * n ≤ t * t * d

@@ -8,12 +8,15 @@ use lib.Dec.{T}
 use lib.Ieee.{Float, binary64, fits}
 use Rattle.rounding.specs.Methods.{totalLe, valueLe}
 
+-- Each float is not after itself,
 abbrev pub Reflexive : Type 0
 Reflexive = (x : Float) → totalLe x x ≡ true
 
+-- the order goes on from one to the next,
 abbrev pub Transitive : Type 0
 Transitive = (x y z : Float) → totalLe x y ≡ true → totalLe y z ≡ true → totalLe x z ≡ true
 
+-- and of any two floats one is not after the other.
 abbrev pub Total : Type 0
 Total = (x y : Float) → (totalLe x y ≡ true) ⊎ (totalLe y x ≡ true)
 
