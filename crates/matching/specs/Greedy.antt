@@ -31,7 +31,7 @@ assigned taken (p ∷ ps) =
     let m : Match = record { spot = p .spot; prediction = p .prediction } in
     cond (clashes p taken) (assigned taken ps) (m ∷ assigned (m ∷ taken) ps)
 
--- The matches of a round, in the order in which they are taken.
+-- The matches of a round, in the order in which they are taken: the Rust's `matches`, with a prediction by its place.
 unfoldable pub matchesOf : List Float → ℕ → List Float → Float → List Match
 unfolding assigned merged notAfter pairs
 matchesOf points limit predicted r2 = assigned [] (merged notAfter (pairs points limit predicted r2))
@@ -43,17 +43,19 @@ unfoldable pub flat : List Match → List ℕ
 flat [] = []
 flat (m ∷ ms) = m .spot ∷ m .prediction ∷ flat ms
 
--- The first n places are zero, the others as they were.
+-- The first n places of a list of floats are zero, the others as they were;
 abbrev pub cleared : ℕ → List Float → List Float
 cleared n l = replicate n zero64 ++ drop n l
 
+-- so of a list of whole numbers.
 abbrev pub clearedN : ℕ → List ℕ → List ℕ
 clearedN n l = replicate n 0 ++ drop n l
 
--- The places of `work` that a call needs: a mark for each spot within the limit and for each prediction, and two for each match.
+-- The Rust's `used_point` and `used_pred`: a mark for each spot within the limit and for each prediction.
 abbrev pub marks : List Float → ℕ → List Float → ℕ
 marks points limit predicted = spotsWithin points limit + length predicted / 2
 
+-- The places of `work` that a call needs: the marks, and two for each match.
 abbrev pub needed : List Float → ℕ → List Float → ℕ
 needed points limit predicted = marks points limit predicted + 2 * min (spotsWithin points limit) (length predicted / 2)
 
@@ -83,7 +85,7 @@ overfull distances indices work = record {
   work = work;
 }
 
--- The whole function. A `work` list that is too short is answered first, and nothing is written.
+-- `greedy_unique_matches` whole, with its lists lent. A `work` list that is too short is answered first, and nothing is written.
 unfoldable pub greedyUniqueMatches : List Float → ℕ → List Float → Float → List Float → List ℕ → List ℕ → Outcome
 unfolding pairs matchesOf placed overfull
 greedyUniqueMatches points limit predicted r2 distances indices work =
