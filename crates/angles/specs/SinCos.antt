@@ -48,19 +48,22 @@ byQuarter (suc zero) s c = record { sin = c; cos = neg s }
 byQuarter (suc (suc zero)) s c = record { sin = neg s; cos = neg c }
 byQuarter (suc (suc (suc n))) s c = record { sin = neg c; cos = s }
 
+-- "Else k = .. and r = ..": both functions of a value within ±1,024.
 unfoldable pub inReach : Float → SinCos
 unfolding quarterTurns reduced sine cosine mod4 byQuarter
 inReach a = let k = quarterTurns a in let r = reduced a k in byQuarter (mod4 k) (sine r) (cosine r)
 
--- A value that is not finite, or beyond 1,024 either way, has neither.
+-- "sin and cos of a value not finite or beyond 1,024: NaN."
 unfoldable pub sinCos : Float → SinCos
 unfolding inReach absF
 sinCos a = cond (le (absF a) reach) (inReach a) (record { sin = nan; cos = nan })
 
+-- The sine, Rust's f64::sin in the oracle,
 unfoldable pub sin : Float → Float
 unfolding sinCos
 sin a = sinCos a .sin
 
+-- and the cosine, its f64::cos.
 unfoldable pub cos : Float → Float
 unfolding sinCos
 cos a = sinCos a .cos

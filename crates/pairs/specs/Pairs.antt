@@ -13,10 +13,12 @@ pub record Pair : Type 0 where
   pub spot : ℕ
   pub prediction : ℕ
 
+-- A place on the panel, in pixels.
 pub record Point : Type 0 where
   pub x : Float
   pub y : Float
 
+-- The point with the number i of a flat list.
 unfoldable pub pointAt : List Float → ℕ → Point
 pointAt l i = record { x = getD l (2 * i) nan; y = getD l (2 * i + 1) nan }
 
@@ -24,7 +26,8 @@ pointAt l i = record { x = getD l (2 * i) nan; y = getD l (2 * i + 1) nan }
 unfoldable pub squared : Point → Point → Float
 squared c p = (c .x ⊖ p .x) ⊗ (c .x ⊖ p .x) ⊕ (c .y ⊖ p .y) ⊗ (c .y ⊖ p .y)
 
--- A pair stands in front of the others where its squared distance is at most the squared radius.
+-- `if d2 <= radius_sq`: a pair stands in front of the others where its squared distance is at most the squared radius. 01: "NaN distances never
+-- qualify."
 unfoldable pub within : Float → Pair → List Pair → List Pair
 within r2 p ps = cond (le (p .d2) r2) (p ∷ ps) ps
 
@@ -42,10 +45,11 @@ pairsFrom r2 points predicted i zero = []
 pairsFrom r2 points predicted i (suc k) =
     pairsOf r2 predicted i (pointAt points i) 0 (length predicted / 2) ++ pairsFrom r2 points predicted (suc i) k
 
--- Only the first `limit` spots are looked at.
+-- `points.len().min(max_points)`: only the first `limit` spots are looked at.
 abbrev pub spotsWithin : List Float → ℕ → ℕ
 spotsWithin points limit = min (length points / 2) limit
 
+-- All candidates of a round, in the order in which the Rust pushes them. 01's refusal 13 counts these: "in-radius pairs".
 unfoldable pub pairs : List Float → ℕ → List Float → Float → List Pair
 unfolding pairsFrom
 pairs points limit predicted r2 = pairsFrom r2 points predicted 0 (spotsWithin points limit)

@@ -15,15 +15,17 @@ use Rattle.project.specs.Project.{divided}
 use Rattle.project.specs.declared.Projected.{Projected}
 use Rattle.project.specs.declared.WcsRotation.{WcsRotation}
 
--- The basis of the tangent plane at (ra, dec): east, north, and the boresight.
+-- The basis of the tangent plane at (ra, dec): east, the Rust's `e_xi`,
 unfoldable pub east : Float → List Float
 unfolding sin cos
 east ra = neg (sin ra) ∷ cos ra ∷ zero64 ∷ []
 
+-- north, its `e_eta`,
 unfoldable pub north : Float → Float → List Float
 unfolding sin cos
 north ra dec = neg (sin dec) ⊗ cos ra ∷ neg (sin dec) ⊗ sin ra ∷ cos dec ∷ []
 
+-- and the boresight.
 unfoldable pub boresight : Float → Float → List Float
 unfolding sin cos
 boresight ra dec = cos dec ⊗ cos ra ∷ cos dec ⊗ sin ra ∷ sin dec ∷ []
@@ -47,6 +49,7 @@ unfoldable pub tanProjectVec : Float → List Float → List (List Float) → Pr
 unfolding dot divided
 tanProjectVec cut v basis = divided cut (dot (row basis 0) v) (dot (row basis 1) v) (dot (row basis 2) v)
 
+-- A row in f32: `as f32` of each component.
 unfoldable pub narrowedRow : List Float → List Float
 unfolding narrowed
 narrowedRow v = narrowed (at v 0) ∷ narrowed (at v 1) ∷ narrowed (at v 2) ∷ []
@@ -62,22 +65,24 @@ rotationFromThetaCrval theta ra dec =
 unfoldable pub mirrored : List (List Float) → Bool
 mirrored cd = lt (entry cd 0 0 ⊗ entry cd 1 1 ⊖ entry cd 0 1 ⊗ entry cd 1 0) zero64
 
--- the camera's x axis before normalising, negated for a mirrored image
+-- Its `cam_x_icrs_raw`: the camera's x axis before normalising, negated for a mirrored image,
 unfoldable pub rawX : List (List Float) → Float → Float → List Float
 unfolding mirrored combined negated east north
 rawX cd ra dec =
     let v = combined (east ra) (entry cd 0 0) (north ra dec) (entry cd 1 0) in
     cond (mirrored cd) (negated v) v
 
+-- and its `cam_y_icrs_raw`.
 unfoldable pub rawY : List (List Float) → Float → Float → List Float
 unfolding combined east north
 rawY cd ra dec = combined (east ra) (entry cd 0 1) (north ra dec) (entry cd 1 1)
 
--- the field of view, 2 atan(ps_x * W / 2), in f32
+-- Its `fov`: the field of view, 2 atan(ps_x * W / 2), in f32.
 unfoldable pub fieldOfView : Float → ℕ → Float
 unfolding atan narrowed
 fieldOfView psX width = narrowed (two ⊗ atan (psX ⊗ ofInt binary64 (pos width) ⊘ two))
 
+-- `wcs_to_rotation` whole: the rotation by its rows, the field of view, and the mirror.
 unfoldable pub wcsToRotation : List (List Float) → Float → Float → ℕ → WcsRotation
 unfolding rawX rawY boresight normalised narrowedRow fieldOfView mirrored norm
 wcsToRotation cd ra dec width = record {

@@ -14,14 +14,18 @@ tiny = f64 0x39B4484BFEEBC2A0
 abbrev pub clipNsigma : Float
 clipNsigma = f64 0x4008000000000000
 
+-- 0.5
 abbrev pub half : Float
 half = f64 0x3FE0000000000000
 
+-- 2.0
 abbrev pub two : Float
 two = f64 0x4000000000000000
 
+-- -1.0
 abbrev pub minusOne : Float
 minusOne = f64 0xBFF0000000000000
 
+-- f64::INFINITY
 abbrev pub infinity : Float
 infinity = f64 0x7FF0000000000000

@@ -23,7 +23,7 @@ unconstrained =
 abbrev pub evened : Float → Float → Float → Float
 evened sigma2 a b = sigma2 ⊗ half ⊗ (a ⊕ b)
 
--- from the three columns of the inverse
+-- The covariance from the three columns a, b, c of the inverse: sigma2 times the inverse, made symmetric.
 unfoldable pub symmetric : Float → Float → Float → Float → Float → Float → Float → Float → Float → Float → List (List Float)
 symmetric s a0 a1 a2 b0 b1 b2 c0 c1 c2 =
     (evened s a0 a0 ∷ evened s b0 a1 ∷ evened s c0 a2 ∷ [])
@@ -31,7 +31,7 @@ symmetric s a0 a1 a2 b0 b1 b2 c0 c1 c2 =
     ∷ (evened s a2 c0 ∷ evened s b2 c1 ∷ evened s c2 c2 ∷ [])
     ∷ []
 
--- a failed column leaves the whole open
+-- 01: "or with a failed inverse column: infinity on the diagonal, zero elsewhere"
 unfoldable pub fromColumns : Float → Solution → Solution → Solution → List (List Float)
 unfolding symmetric unconstrained
 fromColumns s (Solved a0 a1 a2) (Solved b0 b1 b2) (Solved c0 c1 c2) = symmetric s a0 a1 a2 b0 b1 b2 c0 c1 c2
@@ -39,7 +39,8 @@ fromColumns s (Solved a0 a1 a2) (Solved b0 b1 b2) Failed = unconstrained
 fromColumns s (Solved a0 a1 a2) Failed z = unconstrained
 fromColumns s Failed y z = unconstrained
 
--- "Covariance with 2n − 3 below 1": that is n below 2. From 2 ^ 62 on, which no list has, 2n is past the Rust's i64; here that is unconstrained too.
+-- `covariance_from_normal`. "Covariance with 2n − 3 below 1": that is n below 2. From 2 ^ 62 on, which no list has, 2n is past the Rust's i64; here
+-- that is unconstrained too.
 unfoldable pub covarianceFromNormal : List (List Float) → Float → ℕ → List (List Float)
 unfolding fromColumns unconstrained solve3x3
 covarianceFromNormal ata sumR2 n =

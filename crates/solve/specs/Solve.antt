@@ -13,7 +13,7 @@ use Rattle.solve.specs.declared.Pivot.{Pivot}
 use Rattle.solve.specs.declared.Solution.{Solution}
 use Rattle.solve.specs.declared.Solution.the-variants.{Solved, Failed}
 
--- the right side beside the matrix
+-- The Rust's `m` and `rhs` in one: the right side beside the matrix.
 unfoldable pub beside : List (List Float) → List Float → List (List Float)
 beside a b =
     (entry a 0 0 ∷ entry a 0 1 ∷ entry a 0 2 ∷ at b 0 ∷ [])
@@ -42,32 +42,36 @@ unfoldable pub usable : Float → Bool
 unfolding isFinite
 usable size = not (lt size tiny) && isFinite size
 
+-- `m.swap(col, max_row)`, and `rhs` with it.
 unfoldable pub swapped : List (List Float) → ℕ → ℕ → List (List Float)
 swapped m i j = set (set m i (row m j)) j (row m i)
 
--- row - f * pivot's row, from the column col on
+-- `m[row][j] -= factor * m[col][j]` from the column col on, the right side included.
 unfoldable pub minusFrom : ℕ → Float → List Float → List Float → List Float
 minusFrom col f [] ps = []
 minusFrom col f (x ∷ xs) [] = x ∷ xs
 minusFrom zero f (x ∷ xs) (p ∷ ps) = x ⊖ f ⊗ p ∷ minusFrom zero f xs ps
 minusFrom (suc col) f (x ∷ xs) (p ∷ ps) = x ∷ minusFrom col f xs ps
 
--- The column is cleared below the diagonal.
+-- One row below the diagonal, with `factor = m[row][col] / pivot`.
 unfoldable pub reduced : ℕ → List Float → List Float → List Float
 unfolding minusFrom
 reduced col pivot r = minusFrom col (at r col ⊘ at pivot col) r pivot
 
+-- "Eliminate below": every row below the diagonal.
 unfoldable pub eliminated : List (List Float) → ℕ → List (List Float)
 unfolding reduced
 eliminated m col = take (suc col) m ++ map (reduced col (row m col)) (drop (suc col) m)
 
--- back substitution, from the last row up
+-- Back substitution, from the last row up: x[2],
 unfoldable pub solutionZ : List (List Float) → Float
 solutionZ m = entry m 2 3 ⊘ entry m 2 2
 
+-- then x[1],
 unfoldable pub solutionY : List (List Float) → Float → Float
 solutionY m z = (entry m 1 3 ⊖ entry m 1 2 ⊗ z) ⊘ entry m 1 1
 
+-- then x[0].
 unfoldable pub solutionX : List (List Float) → Float → Float → Float
 solutionX m y z = (entry m 0 3 ⊖ entry m 0 1 ⊗ y ⊖ entry m 0 2 ⊗ z) ⊘ entry m 0 0
 
@@ -81,6 +85,7 @@ unfoldable pub divides : Float → Bool
 unfolding absF
 divides d = not (lt (absF d) tiny)
 
+-- Back substitution with its two ways to fail.
 unfoldable pub substituted : List (List Float) → Solution
 unfolding solutionZ solutionY solutionX ifFinite divides
 substituted m =
@@ -95,6 +100,7 @@ solvedFrom col zero m = substituted m
 solvedFrom col (suc k) m =
     cond (usable (pivotOf m col .size)) (solvedFrom (suc col) k (eliminated (swapped m col (pivotOf m col .row)) col)) Failed
 
+-- `solve_3x3`: x with a x = b, or `Failed`, under 01's three conditions quoted above and no other.
 unfoldable pub solve3x3 : List (List Float) → List Float → Solution
 unfolding beside solvedFrom
 solve3x3 a b = solvedFrom 0 3 (beside a b)

@@ -57,7 +57,7 @@ fn scaled_inverse(a: [[f64; 3]; 3], s: f64) -> [[f64; 3]; 3]
     symmetric(s, a0, a1, a2, b0, b1, b2, c0, c1, c2)
 }
 
-// The covariance of theta, xi and eta, of n_matches stars with two residuals each, whose squares sum to sum_r2.
+// The covariance of theta, xi and eta, over n_matches spots with two residuals each, whose squares sum to sum_r2.
 pub fn covariance_from_normal(ata: [[f64; 3]; 3], sum_r2: f64, n_matches: usize) -> [[f64; 3]; 3]
     ensures { λ r. ⌜ r ≡ covarianceFromNormal ata «sum_r2» «n_matches» ⌝ }
 {
