@@ -37,7 +37,7 @@ returns c =
       cleared-within 0 (2 * a .cap) (a .indices .now) (omega (arith, s .pre .1)),
       f .clear-floats .ensures,
       cleared-within zero64 (a .cap) (a .distances .now) (omega (arith, s .pre .0)),
-      lt-ltb (a .cap) (a .m) (t .if1 .taken),
+      lt-ltb (a .cap) (a .m) (omega (arith, t .if1 .taken)),
     )
 
 settle-requires : tie.Need-settle-requires
