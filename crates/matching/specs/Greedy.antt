@@ -93,7 +93,8 @@ greedyUniqueMatches points limit predicted r2 distances indices work =
     (record { answer = Short; distances = distances; indices = indices; work = work })
     (cond (ltb (capacity distances indices) (length (pairs points limit predicted r2)))
     (overfull distances indices work)
-    (placed (marks points limit predicted) (length (pairs points limit predicted r2)) (matchesOf points limit predicted r2) distances indices work))
+    (placed (marks points limit predicted) (length (pairs points limit predicted r2)) (matchesOf points limit predicted r2)
+    distances indices work))
 
 -- ---- with room for strips
 
@@ -106,4 +107,9 @@ greedyByStrips points limit predicted r2 distances indices work =
     (behind (greedyUniqueMatches points limit predicted r2 distances indices (drop (stripRoom points limit) work)))
   where
     behind : Outcome → Outcome
-    behind o = record { answer = o .answer; distances = o .distances; indices = o .indices; work = replicate (stripRoom points limit) 0 ++ o .work }
+    behind o = record {
+      answer = o .answer;
+      distances = o .distances;
+      indices = o .indices;
+      work = replicate (stripRoom points limit) 0 ++ o .work;
+    }

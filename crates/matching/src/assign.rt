@@ -14,7 +14,9 @@ fn offer(
     prediction: usize,
 ) -> usize
     requires { ⌜ (np + prediction < 2 ^ 64) × (marked + 2 * t + 1 < 2 ^ 64) ⌝ }
-    ensures { λ r. ⌜ (r ≤ t + 1) × (taking r (now (work .exit)) ≡ offered np marked (taking t (now (work .entry))) spot prediction) ⌝ }
+    ensures { λ r.
+        ⌜ (r ≤ t + 1)
+        × (taking r (now (work .exit)) ≡ offered np marked (taking t (now (work .entry))) spot prediction) ⌝ }
 {
     if lists::number_at(&work[..], spot) == 0 {
         if lists::number_at(&work[..], np + prediction) == 0 {
@@ -37,8 +39,12 @@ pub(crate) fn assign(
     marked: usize,
     work: &mut [usize],
 ) -> usize
-    requires { ⌜ (2 * (from + m) ≤ length (now indices)) × (marked ≤ length (now work)) × ((k : ℕ) → k < m → np + getD (now indices) (2 * (from + k) + 1) 0 < 2 ^ 64) ⌝ }
-    ensures { λ r. ⌜ taking r (now (work .exit)) ≡ offers np marked (now (indices .entry)) from m (taking 0 (now (work .entry))) ⌝ }
+    requires { ⌜ (2 * (from + m) ≤ length (now indices))
+        × (marked ≤ length (now work))
+        × ((k : ℕ) → k < m → np + getD (now indices) (2 * (from + k) + 1) 0 < 2 ^ 64) ⌝ }
+    ensures { λ r.
+        ⌜ taking r (now (work .exit))
+        ≡ offers np marked (now (indices .entry)) from m (taking 0 (now (work .entry))) ⌝ }
 {
     let mut t: usize = 0;
     let mut i: usize = 0;

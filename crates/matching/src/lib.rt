@@ -32,8 +32,15 @@ fn settle(
     indices: &mut [usize],
     work: &mut [usize],
 ) -> usize
-    requires { ⌜ (2 * m ≤ length (now distances)) × (4 * m ≤ length (now indices)) × (np + nq + 2 * min np nq ≤ length (now work)) × All (Inside np nq) (take m (laid (now distances) (now indices))) ⌝ }
-    ensures { λ r. ⌜ outcome (Matched.Matches r) (now (distances .exit)) (now (indices .exit)) (now (work .exit)) ≡ placed (np + nq) m (assigned [] (merged notAfter (take m (laid (now (distances .entry)) (now (indices .entry)))))) (now (distances .entry)) (now (indices .entry)) (now (work .entry)) ⌝ }
+    requires { ⌜ (2 * m ≤ length (now distances))
+        × (4 * m ≤ length (now indices))
+        × (np + nq + 2 * min np nq ≤ length (now work))
+        × All (Inside np nq) (take m (laid (now distances) (now indices))) ⌝ }
+    ensures { λ r.
+        ⌜ outcome (Matched.Matches r) (now (distances .exit)) (now (indices .exit)) (now (work .exit))
+        ≡ placed (np + nq) m
+        (assigned [] (merged notAfter (take m (laid (now (distances .entry)) (now (indices .entry))))))
+        (now (distances .entry)) (now (indices .entry)) (now (work .entry)) ⌝ }
 {
     let marked = np + nq;
     let from = merge::order(distances, indices, m);
@@ -55,8 +62,13 @@ fn concluded(
     indices: &mut [usize],
     work: &mut [usize],
 ) -> Matched
-    requires { ⌜ (2 * cap ≤ length (now distances)) × (4 * cap ≤ length (now indices)) × (np + nq + 2 * min np nq ≤ length (now work)) × (m ≤ cap → All (Inside np nq) (take m (laid (now distances) (now indices)))) ⌝ }
-    ensures { λ r. ⌜ outcome r (now (distances .exit)) (now (indices .exit)) (now (work .exit)) ≡ concluded np nq cap m (now (distances .entry)) (now (indices .entry)) (now (work .entry)) ⌝ }
+    requires { ⌜ (2 * cap ≤ length (now distances))
+        × (4 * cap ≤ length (now indices))
+        × (np + nq + 2 * min np nq ≤ length (now work))
+        × (m ≤ cap → All (Inside np nq) (take m (laid (now distances) (now indices)))) ⌝ }
+    ensures { λ r.
+        ⌜ outcome r (now (distances .exit)) (now (indices .exit)) (now (work .exit))
+        ≡ concluded np nq cap m (now (distances .entry)) (now (indices .entry)) (now (work .entry)) ⌝ }
 {
     if cap < m {
         lists::clear_floats(distances, cap);
@@ -78,7 +90,16 @@ pub fn greedy_unique_matches(
     indices: &mut [usize],
     work: &mut [usize],
 ) -> Matched
-    ensures { λ r. ⌜ _≡_ {A = Outcome} (record { answer = r; distances = now (distances .exit); indices = now (indices .exit); work = now (work .exit) }) (greedyUniqueMatches (now (points .entry)) «max_points» (now (predicted .entry)) «radius_sq» (now (distances .entry)) (now (indices .entry)) (now (work .entry))) ⌝ }
+    ensures { λ r.
+        ⌜ _≡_ {A = Outcome}
+        (record {
+          answer = r;
+          distances = now (distances .exit);
+          indices = now (indices .exit);
+          work = now (work .exit);
+        })
+        (greedyUniqueMatches (now (points .entry)) «max_points» (now (predicted .entry)) «radius_sq»
+        (now (distances .entry)) (now (indices .entry)) (now (work .entry))) ⌝ }
 {
     let np = pairs::spots_within(points, max_points);
     let nq = predicted.len() / 2;
@@ -101,7 +122,16 @@ pub fn greedy_unique_matches_by_strips(
     indices: &mut [usize],
     work: &mut [usize],
 ) -> Matched
-    ensures { λ r. ⌜ _≡_ {A = Outcome} (record { answer = r; distances = now (distances .exit); indices = now (indices .exit); work = now (work .exit) }) (greedyByStrips (now (points .entry)) «max_points» (now (predicted .entry)) «radius_sq» (now (distances .entry)) (now (indices .entry)) (now (work .entry))) ⌝ }
+    ensures { λ r.
+        ⌜ _≡_ {A = Outcome}
+        (record {
+          answer = r;
+          distances = now (distances .exit);
+          indices = now (indices .exit);
+          work = now (work .exit);
+        })
+        (greedyByStrips (now (points .entry)) «max_points» (now (predicted .entry)) «radius_sq»
+        (now (distances .entry)) (now (indices .entry)) (now (work .entry))) ⌝ }
 {
     let np = pairs::spots_within(points, max_points);
     let nq = predicted.len() / 2;

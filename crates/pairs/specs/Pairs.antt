@@ -36,7 +36,8 @@ unfoldable pub pairsOf : Float → List Float → ℕ → Point → ℕ → ℕ 
 unfolding within squared pointAt
 pairsOf r2 predicted i c j zero = []
 pairsOf r2 predicted i c j (suc k) =
-    within r2 (record { d2 = squared c (pointAt predicted j); spot = i; prediction = j }) (pairsOf r2 predicted i c (suc j) k)
+    within r2 (record { d2 = squared c (pointAt predicted j); spot = i; prediction = j })
+    (pairsOf r2 predicted i c (suc j) k)
 
 -- The pairs of the spots from i on, k of them: by spot, then prediction.
 unfoldable pub pairsFrom : Float → List Float → List Float → ℕ → ℕ → List Pair

@@ -32,7 +32,11 @@ pub fn collect(
     distances: &mut [f64],
     indices: &mut [usize],
 ) -> usize
-    ensures { λ r. ⌜ found r (now (distances .exit)) (now (indices .exit)) ≡ pushed (capacity (now (distances .entry)) (now (indices .entry))) (found 0 (now (distances .entry)) (now (indices .entry))) (pairs (now (points .entry)) «max_points» (now (predicted .entry)) «radius_sq») ⌝ }
+    ensures { λ r.
+        ⌜ found r (now (distances .exit)) (now (indices .exit))
+        ≡ pushed (capacity (now (distances .entry)) (now (indices .entry)))
+        (found 0 (now (distances .entry)) (now (indices .entry)))
+        (pairs (now (points .entry)) «max_points» (now (predicted .entry)) «radius_sq») ⌝ }
 {
     let np = spots_within(points, max_points);
     let cap = room_for(&distances[..], &indices[..]);
@@ -50,7 +54,13 @@ pub fn collect_by_strips(
     indices: &mut [usize],
     work: &mut [usize],
 ) -> usize
-    ensures { λ r. ⌜ (found r (now (distances .exit)) (now (indices .exit)) ≡ pushed (capacity (now (distances .entry)) (now (indices .entry))) (found 0 (now (distances .entry)) (now (indices .entry))) (pairsNearby (now (points .entry)) «max_points» (now (predicted .entry)) «radius_sq» (length (now (work .entry))))) × (now (work .exit) ≡ roomAfter (now (points .entry)) «max_points» (now (work .entry))) ⌝ }
+    ensures { λ r.
+        ⌜ (found r (now (distances .exit)) (now (indices .exit))
+        ≡ pushed (capacity (now (distances .entry)) (now (indices .entry)))
+        (found 0 (now (distances .entry)) (now (indices .entry)))
+        (pairsNearby (now (points .entry)) «max_points» (now (predicted .entry)) «radius_sq»
+        (length (now (work .entry)))))
+        × (now (work .exit) ≡ roomAfter (now (points .entry)) «max_points» (now (work .entry))) ⌝ }
 {
     let np = spots_within(points, max_points);
     let cap = room_for(&distances[..], &indices[..]);

@@ -19,8 +19,14 @@ fn collect_spot(
     cap: usize,
     m: usize,
 ) -> usize
-    requires { ⌜ (2 * n ≤ length (now predicted)) × (cap ≤ length (now distances)) × (2 * cap ≤ length (now indices)) × (m ≤ cap) ⌝ }
-    ensures { λ r. ⌜ found r (now (distances .exit)) (now (indices .exit)) ≡ pushed cap (found m (now (distances .entry)) (now (indices .entry))) (pairsOf «radius_sq» (now (predicted .entry)) spot (point x y) 0 n) ⌝ }
+    requires { ⌜ (2 * n ≤ length (now predicted))
+        × (cap ≤ length (now distances))
+        × (2 * cap ≤ length (now indices))
+        × (m ≤ cap) ⌝ }
+    ensures { λ r.
+        ⌜ found r (now (distances .exit)) (now (indices .exit))
+        ≡ pushed cap (found m (now (distances .entry)) (now (indices .entry)))
+        (pairsOf «radius_sq» (now (predicted .entry)) spot (point x y) 0 n) ⌝ }
 {
     let mut k = m;
     let mut j: usize = 0;
@@ -53,7 +59,10 @@ pub(crate) fn collect(
     cap: usize,
 ) -> usize
     requires { ⌜ (2 * np ≤ length (now points)) × (cap ≤ length (now distances)) × (2 * cap ≤ length (now indices)) ⌝ }
-    ensures { λ r. ⌜ found r (now (distances .exit)) (now (indices .exit)) ≡ pushed cap (found 0 (now (distances .entry)) (now (indices .entry))) (pairsFrom «radius_sq» (now (points .entry)) (now (predicted .entry)) 0 np) ⌝ }
+    ensures { λ r.
+        ⌜ found r (now (distances .exit)) (now (indices .exit))
+        ≡ pushed cap (found 0 (now (distances .entry)) (now (indices .entry)))
+        (pairsFrom «radius_sq» (now (points .entry)) (now (predicted .entry)) 0 np) ⌝ }
 {
     let n = predicted.len() / 2;
     let mut m: usize = 0;

@@ -145,7 +145,9 @@ fn mirrored(cd: [[f64; 2]; 2]) -> bool
 
 // The camera's x axis before it is normalised, from the plane's axes; negated for a mirrored image.
 fn raw_x(cd: [[f64; 2]; 2], flip: bool, e: [f64; 3], n: [f64; 3]) -> [f64; 3]
-    ensures { λ r. ⌜ r ≡ cond flip (negated (combined e (entry cd 0 0) n (entry cd 1 0))) (combined e (entry cd 0 0) n (entry cd 1 0)) ⌝ }
+    ensures { λ r.
+        ⌜ r ≡ cond flip (negated (combined e (entry cd 0 0) n (entry cd 1 0)))
+        (combined e (entry cd 0 0) n (entry cd 1 0)) ⌝ }
 {
     let v = combined(e, cd[0][0], n, cd[1][0]);
     if flip { negated(v) } else { v }

@@ -29,11 +29,13 @@ ExactOver f m e = FractionOver (m * up e * 2 ^ low f) (down e)
 
 -- The root of a finite number above zero is rounded to nearest, ties to even, in either format: over whole numbers of units,
 abbrev pub RootRounded : Type 0
-RootRounded = (f : Format) (m : ℕ) (e : ℤ) → Rounded f (RootedUnder f (suc m) e) (RootedOver f (suc m) e) false (root f (fin false (suc m) e))
+RootRounded = (f : Format) (m : ℕ) (e : ℤ) →
+    Rounded f (RootedUnder f (suc m) e) (RootedOver f (suc m) e) false (root f (fin false (suc m) e))
 
 -- and over floats.
 abbrev pub RootRoundedFloat : Type 0
-RootRoundedFloat = (f : Format) (m : ℕ) (e : ℤ) → RoundedFloat f (RootedUnder f (suc m) e) (RootedOver f (suc m) e) false (root f (fin false (suc m) e))
+RootRoundedFloat = (f : Format) (m : ℕ) (e : ℤ) →
+    RoundedFloat f (RootedUnder f (suc m) e) (RootedOver f (suc m) e) false (root f (fin false (suc m) e))
 
 -- A larger number has no smaller root: the root keeps the order of the numbers that are not below zero.
 abbrev pub RootMonotone : Type 0
@@ -41,18 +43,20 @@ RootMonotone = (f : Format) (x y : Float) → lt x (ofBits f 0) ≡ false → le
 
 -- Narrowing rounds any finite number to nearest, ties to even, in f32: over whole numbers of units,
 abbrev pub NarrowRounded : Type 0
-NarrowRounded = (s : Bool) (m : ℕ) (e : ℤ) → Rounded binary32 (ExactUnder binary32 m e) (ExactOver binary32 m e) s (narrowed (fin s m e))
+NarrowRounded = (s : Bool) (m : ℕ) (e : ℤ) →
+    Rounded binary32 (ExactUnder binary32 m e) (ExactOver binary32 m e) s (narrowed (fin s m e))
 
 -- and over floats.
 abbrev pub NarrowRoundedFloat : Type 0
-NarrowRoundedFloat = (s : Bool) (m : ℕ) (e : ℤ) → RoundedFloat binary32 (ExactUnder binary32 m e) (ExactOver binary32 m e) s (narrowed (fin s m e))
+NarrowRoundedFloat = (s : Bool) (m : ℕ) (e : ℤ) →
+    RoundedFloat binary32 (ExactUnder binary32 m e) (ExactOver binary32 m e) s (narrowed (fin s m e))
 
 -- `Rounded` determines the float, of any y whatever: two floats that fit and are both y rounded are the same.
 abbrev pub RoundedUnique : Type 1
-RoundedUnique = (f : Format) (Under Over : ℕ → Type 0) → ((s t : ℕ) → Under t → Over s → t ≤ s) → (s : Bool) (r v : Float) →
-    T (fits f r) → T (fits f v) → Rounded f Under Over s r → Rounded f Under Over s v → r ≡ v
+RoundedUnique = (f : Format) (Under Over : ℕ → Type 0) → ((s t : ℕ) → Under t → Over s → t ≤ s) →
+    (s : Bool) (r v : Float) → T (fits f r) → T (fits f v) → Rounded f Under Over s r → Rounded f Under Over s v → r ≡ v
 
 -- So does `RoundedFloat`, which says of itself that the float fits.
 abbrev pub RoundedFloatUnique : Type 1
-RoundedFloatUnique = (f : Format) (Under Over : ℕ → Type 0) → ((s t : ℕ) → Under t → Over s → t ≤ s) → (s : Bool) (r v : Float) →
-    RoundedFloat f Under Over s r → RoundedFloat f Under Over s v → r ≡ v
+RoundedFloatUnique = (f : Format) (Under Over : ℕ → Type 0) → ((s t : ℕ) → Under t → Over s → t ≤ s) →
+    (s : Bool) (r v : Float) → RoundedFloat f Under Over s r → RoundedFloat f Under Over s v → r ≡ v

@@ -42,7 +42,9 @@ clampF x lo hi = cond (lt x lo) lo (cond (lt hi x) hi x)
 unfoldable pub totalKey : Float → ℕ
 totalKey x =
     cond (isNan x) 0xFFFFFFFFFFFFFFFF
-    (cond (ltb (toBits binary64 x) 0x8000000000000000) (toBits binary64 x + 0x8000000000000000) (0xFFFFFFFFFFFFFFFF - toBits binary64 x))
+    (cond (ltb (toBits binary64 x) 0x8000000000000000)
+    (toBits binary64 x + 0x8000000000000000)
+    (0xFFFFFFFFFFFFFFFF - toBits binary64 x))
 
 -- Rust's Ordering, from how two whole numbers compare.
 abbrev pub orderOf : Ordering → Order

@@ -51,7 +51,8 @@ pub record NearestFloat (f : Format) (Under Over : ℕ → Type 0) (s : Bool) (r
   pub larger : (v : Float) (a : ℕ) → T (fits f v) → HasValue v s a (2 ^ low f) → g < a → Over (g + a)
   pub smaller : (v : Float) (a : ℕ) → T (fits f v) → HasValue v s a (2 ^ low f) → a < g → Under (a + g)
   pub opposite : (v : Float) (a : ℕ) → T (fits f v) → HasValue v (not s) a (2 ^ low f) → Under (g - a)
-  pub even : (v : Float) (a : ℕ) → T (fits f v) → HasValue v s a (2 ^ low f) → (a ≡ g → ⊥) → Under (a + g) → Over (a + g) → lastDigit (prec f) g ≡ 0
+  pub even : (v : Float) (a : ℕ) → T (fits f v) → HasValue v s a (2 ^ low f) → (a ≡ g → ⊥) →
+      Under (a + g) → Over (a + g) → lastDigit (prec f) g ≡ 0
 
 -- r is y rounded to the format f, said of floats alone: an infinity exactly from the overflow threshold on, and below it the nearest float.
 pub record RoundedFloat (f : Format) (Under Over : ℕ → Type 0) (s : Bool) (r : Float) : Type 0 where

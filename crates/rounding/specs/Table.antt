@@ -43,7 +43,8 @@ IsNarrowed (inf s) r = r ≡ inf s
 -- a zero of either sign stays, written as a format writes it
 IsNarrowed (fin s zero e) r = r ≡ fin s zero (pos 0)
 -- a number below or above zero is rounded to the nearest f32, ties to even, and keeps its sign, also where that is a zero or an infinity
-IsNarrowed (fin s (suc m) e) r = RoundedFloat binary32 (ExactUnder binary32 (suc m) e) (ExactOver binary32 (suc m) e) s r
+IsNarrowed (fin s (suc m) e) r =
+    RoundedFloat binary32 (ExactUnder binary32 (suc m) e) (ExactOver binary32 (suc m) e) s r
 
 -- `narrowed`, which the contract of `narrow` cites, is it, for every kind of float.
 abbrev pub NarrowIs : Type 0

@@ -11,7 +11,10 @@ use crate::pattern::take_apart;
 // From the place 896 on a number is normal as an `f32`, and 29 digits go; below that more go, and past 63 nothing is left.
 fn narrow_bits(a: u64) -> u64
     requires { ⌜ a ≤ 0x7ff0_0000_0000_0000 ⌝ }
-    ensures { λ r. ⌜ ((s : Bool) → cond s (2 ^ 31) 0 + r ≡ toBits binary32 (narrowed (ofBits binary64 (cond s (2 ^ 63) 0 + a)))) × (r ≤ 0x7f80_0000) ⌝ }
+    ensures { λ r.
+        ⌜ ((s : Bool)
+        → cond s (2 ^ 31) 0 + r ≡ toBits binary32 (narrowed (ofBits binary64 (cond s (2 ^ 63) 0 + a))))
+        × (r ≤ 0x7f80_0000) ⌝ }
 {
     if a == 0x7ff0_0000_0000_0000 {
         return 0x7f80_0000;

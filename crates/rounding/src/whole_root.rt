@@ -27,7 +27,8 @@ fn first_root(a: u64) -> u64
 
 // The whole root of m, or one more, from one of m / 4^b, s: a step of Newton's goes half of the way from s * 2^b to what m is divided by that.
 fn nearer(s: u64, b: u64, m: u64) -> u64
-    requires { ⌜ (wholeRoot (m / 4 ^ b) ≤ s) × (s ≤ wholeRoot (m / 4 ^ b) + 1) × (2 ^ b ≤ 2 * s) × (s ≤ 2 ^ 16) × (2 ≤ b) × (b ≤ 16) ⌝ }
+    requires { ⌜ (wholeRoot (m / 4 ^ b) ≤ s) × (s ≤ wholeRoot (m / 4 ^ b) + 1)
+        × (2 ^ b ≤ 2 * s) × (s ≤ 2 ^ 16) × (2 ≤ b) × (b ≤ 16) ⌝ }
     ensures { λ r. ⌜ (wholeRoot m ≤ r) × (r ≤ wholeRoot m + 1) ⌝ }
 {
     (s << (b - 1)) + (m >> (b + 1)) / s

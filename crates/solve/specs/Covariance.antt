@@ -24,7 +24,8 @@ abbrev pub evened : Float → Float → Float → Float
 evened sigma2 a b = sigma2 ⊗ half ⊗ (a ⊕ b)
 
 -- The covariance from the three columns a, b, c of the inverse: sigma2 times the inverse, made symmetric.
-unfoldable pub symmetric : Float → Float → Float → Float → Float → Float → Float → Float → Float → Float → List (List Float)
+unfoldable pub symmetric : Float → Float → Float → Float → Float → Float → Float → Float → Float → Float
+    → List (List Float)
 symmetric s a0 a1 a2 b0 b1 b2 c0 c1 c2 =
     (evened s a0 a0 ∷ evened s b0 a1 ∷ evened s c0 a2 ∷ [])
     ∷ (evened s a1 b0 ∷ evened s b1 b1 ∷ evened s c1 b2 ∷ [])

@@ -40,7 +40,9 @@ fn symmetric(
 
 // s times the inverse of a, made symmetric: its columns solve a x = e for each unit vector e.
 fn scaled_inverse(a: [[f64; 3]; 3], s: f64) -> [[f64; 3]; 3]
-    ensures { λ r. ⌜ r ≡ fromColumns s (solve3x3 a (one64 ∷ zero64 ∷ zero64 ∷ [])) (solve3x3 a (zero64 ∷ one64 ∷ zero64 ∷ [])) (solve3x3 a (zero64 ∷ zero64 ∷ one64 ∷ [])) ⌝ }
+    ensures { λ r.
+        ⌜ r ≡ fromColumns s (solve3x3 a (one64 ∷ zero64 ∷ zero64 ∷ [])) (solve3x3 a (zero64 ∷ one64 ∷ zero64 ∷ []))
+        (solve3x3 a (zero64 ∷ zero64 ∷ one64 ∷ [])) ⌝ }
 {
     let x = solve_3x3(a, [1.0, 0.0, 0.0]);
     let Solution::Solved(a0, a1, a2) = x else {
