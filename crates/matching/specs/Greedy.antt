@@ -93,8 +93,8 @@ greedyUniqueMatches points limit predicted r2 distances indices work =
     (record { answer = Short; distances = distances; indices = indices; work = work })
     (cond (ltb (capacity distances indices) (length (pairs points limit predicted r2)))
     (overfull distances indices work)
-    (placed (marks points limit predicted) (length (pairs points limit predicted r2)) (matchesOf points limit predicted r2)
-    distances indices work))
+    (placed (marks points limit predicted) (length (pairs points limit predicted r2))
+    (matchesOf points limit predicted r2) distances indices work))
 
 -- ---- with room for strips
 

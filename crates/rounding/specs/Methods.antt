@@ -65,4 +65,5 @@ totalCmp x y = orderOf (compare (totalKey x) (totalKey y))
 -- The same order without bit patterns: by value, -0 before +0, and the NaN after all.
 unfoldable pub valueLe : Float → Float → Bool
 valueLe x y =
-    cond (isNan y) true (cond (isNan x) false (cond (lt x y) true (cond (eq x y) (negative x || not (negative y)) false)))
+    cond (isNan y) true
+    (cond (isNan x) false (cond (lt x y) true (cond (eq x y) (negative x || not (negative y)) false)))

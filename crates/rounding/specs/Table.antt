@@ -1,4 +1,4 @@
--- IEEE 754-2019 as one table: what the square root of each kind of float is (5.4.1, 6.2, 6.3, 7.2), and what each kind is when it is narrowed to f32
+-- IEEE 754-2019 as one table: what the square root of each kind of float is (5.4.1, 6.1 to 6.3, 7.2), and what each kind is when it is narrowed to f32
 -- (5.4.2). No algorithm stands here, only what a result r has to be. `proofs/Theorems.antt` proves each statement under the same name in small letters.
 -- A float is a NaN, an infinity, a zero, or a number below or above zero (lib.Ieee): `fin s m e` is m * 2 ^ e, negative where s is true. A zero is
 -- m = 0. A format writes it with e = 0 and with no other e, but the rows for a zero hold of every e. Assumes nothing.

@@ -22,7 +22,8 @@ Total = (x y : Float) → (totalLe x y ≡ true) ⊎ (totalLe y x ≡ true)
 
 -- Two floats of which neither is before the other are the same, the sign of a zero included.
 abbrev pub Antisymmetric : Type 0
-Antisymmetric = (x y : Float) → T (fits binary64 x) → T (fits binary64 y) → totalLe x y ≡ true → totalLe y x ≡ true → x ≡ y
+Antisymmetric = (x y : Float) → T (fits binary64 x) → T (fits binary64 y) →
+    totalLe x y ≡ true → totalLe y x ≡ true → x ≡ y
 
 -- The order of the patterns is that of the values.
 abbrev pub ByValue : Type 0

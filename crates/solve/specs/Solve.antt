@@ -91,14 +91,16 @@ unfolding solutionZ solutionY solutionX ifFinite divides
 substituted m =
     let z = solutionZ m in
     let y = solutionY m z in
-    cond (divides (entry m 2 2) && divides (entry m 1 1) && divides (entry m 0 0)) (ifFinite (solutionX m y z) y z) Failed
+    cond (divides (entry m 2 2) && divides (entry m 1 1) && divides (entry m 0 0))
+    (ifFinite (solutionX m y z) y z) Failed
 
 -- The columns from col on, k of them, and then back substitution.
 unfoldable pub solvedFrom : ℕ → ℕ → List (List Float) → Solution
 unfolding pivotOf usable swapped eliminated substituted
 solvedFrom col zero m = substituted m
 solvedFrom col (suc k) m =
-    cond (usable (pivotOf m col .size)) (solvedFrom (suc col) k (eliminated (swapped m col (pivotOf m col .row)) col)) Failed
+    cond (usable (pivotOf m col .size))
+    (solvedFrom (suc col) k (eliminated (swapped m col (pivotOf m col .row)) col)) Failed
 
 -- `solve_3x3`: x with a x = b, or `Failed`, under 01's three conditions quoted above and no other.
 unfoldable pub solve3x3 : List (List Float) → List Float → Solution
