@@ -17,27 +17,26 @@ use Rattle.stats.specs.declared.MedianSigma.{MedianSigma}
 use Rattle.project.specs.Camera.{boresight, cameraRows}
 use Rattle.fit.specs.Rows.{Row, rowOf, rows, View, viewOf}
 use Rattle.fit.specs.Normal.{noMatches, withRows, normalMatrix, solvedSums}
-use Rattle.fit.specs.Residual.{residuals, inFront, madClipMatches}
+use Rattle.residuals.specs.Residual.{residuals, inFront, madClipMatches}
 use Rattle.solve.specs.Covariance.{covarianceFromNormal}
 use Rattle.project.specs.Project.{cdFromTheta}
 use Rattle.fit.specs.declared.Pose.{Pose}
 use Rattle.fit.specs.declared.Counted.{Counted}
-use Rattle.fit.specs.declared.Clip.the-variants.{Kept, Unchanged}
+use Rattle.residuals.specs.declared.Clip.the-variants.{Kept, Unchanged}
 use Rattle.entry.specs.Arguments.{Call}
-use Rattle.entry.specs.Check.{refusal}
-use Rattle.entry.specs.Fixed.{Fixed, fixed}
+use Rattle.entry.specs.Fixed.{Fixed}
 use Rattle.passes.specs.Fit.{fitPasses, moved, sound, still}
 use Rattle.wcs_refine.specs.Clip.{Statistics, none, some, statistics, clipped, taken}
 use Rattle.wcs_refine.specs.Associate.{adaptivePx}
 use Rattle.query.specs.Query.{Cache, empty, full, axis32, leastCos, scanned, drifted, Prediction, predictions, pruned}
 use Rattle.wcs_refine.specs.Round.{State, Next, go, done, refuse, associated, Run, Ending, refused, ended, loop, round}
 use Rattle.wcs_refine.specs.Closing.{fine, cleaned, sumSquares, rootMean}
-use Rattle.wcs_refine.specs.Call.{Outcome, no, ok, start, left, outcome}
-use Rattle.calls.specs.Arithmetic.{arithmetic}
+use Rattle.wcs_refine.specs.Call.{Outcome, no, ok, left, outcome, queries}
+use Rattle.calls.specs.Arithmetic.{arithmetic, checks}
 use Rattle.calls.specs.Steps.{Pass, last-pass, unsound-pass, next-pass, no-pass, passesOf, Measured, Queried, first-search, new-search}
 use Rattle.calls.specs.Steps.{whole-round, unsound-round, roundOf, go-round, done-round, refused-round, ranOf}
 use Rattle.calls.specs.Steps.{Reused, same-search, no-round, Clipping, Refit, last-clip, next-clip}
-use Rattle.calls.specs.Steps.{no-clip, Reported, reportOf, Begun, refused-call, accepted-call}
+use Rattle.calls.specs.Steps.{no-clip, Reported, reportOf, Begun, queried-call, refused-call, accepted-call}
 '''
 # what a computed equation opens beside the definitions that it is about
 FLOATS = 'arithmetic'
@@ -107,10 +106,11 @@ class Writer:
             ('limit', c.limit), ('count', len(c.dirs)), ('capacity', c.capacity), ('cut', number(CUT)), ('far', number(c.far)))))
         p = w.value('Pose', 'pose-0', pose(c.start()))
         w.state = w.value('State', 'state-0', 'record { pose = %s; matches = %s; cache = empty }' % (p, flat(c.matches)))
-        w.computed('begun', 'Begun %s-call k %s' % (w.name, w.state), 'refusal fixed start', ('accepted', 'same', 'begins'))
+        w.computed('begun', 'Begun %s-call k %s' % (w.name, w.state), 'checks', ('accepted', 'same', 'begins'), floats=False)
         w.poses = 1
         loop = w.loop()
         w.heading('the whole call')
+        w.joined('%s-listed' % w.name, 'queries %s-call ≡ %s' % (w.name, w.listed), 'queried-call begun %s' % loop, pub='pub ')
         if c.answer['refusal']:
             w.outcome = record((('answer', 'no %d' % c.answer['refusal']), ('lent', w.left(result))))
             w.joined('%s-row' % w.name, 'outcome %s-call ≡ %s' % (w.name, w.outcome), 'refused-call begun %s' % loop, 'left', 'pub ')
@@ -199,7 +199,7 @@ class Writer:
         for i in range(count, 0, -1):
             one = '%s-round k spots directions %d %s round-%d' % (ends[i - 1], c.rounds - i, states[i - 1], i)
             proof = one + (' (%s)' % proof if proof else ' (no-round k spots directions %s)' % w.last if ends[i - 1] == 'go' else '')
-        passes = sum(len(e['fits']) for e in c.log); qs = several('(' + whole(q) + ')' for q in c.queries)
+        passes = sum(len(e['fits']) for e in c.log); qs = w.listed = several('(' + whole(q) + ')' for q in c.queries)
         end = '(refused %d)' % c.answer['refusal'] if c.answer['refusal'] else '(ended %s)' % w.last
         if c.queries: qs = '(%s)' % qs
         w.joined('run', 'loop k spots directions %d %s ≡ ranOf %s %d %d %s' % (c.rounds, w.state, end, count, passes, qs), proof)
@@ -260,13 +260,33 @@ CALLS = (
     ('last-clip', 'LastClip', last_clip, 'Two rounds with one query, used up, and a clip with its fit at the closing.', list(range(31, 47))),
 )
 
-TOP = '''-- Whole calls, computed by the check from the written meaning: each comes to the answer that the reference gives.
+TOP = '''-- Whole calls, computed by the check from the written meaning: each comes to the answer that the reference gives, after these queries.
 -- Written by tools/rows/rows.py. Assumes nothing.
 use mathlib.Core.Path.{_≡_}
 use mathlib.Core.List.{List, [], _∷_}
+use Prim.Native.Nat.{ℕ}
 use lib.ListN.{replicate}
 use Rattle.rounding.specs.Arith.{f64, zero64, one64}
-use Rattle.wcs_refine.specs.Call.{Outcome, no, ok, outcome}
+use Rattle.entry.specs.Arguments.{Call}
+use Rattle.wcs_refine.specs.Call.{Outcome, no, ok, outcome, queries}
+'''
+
+ROW = '''
+-- A call, its answer with the lists that it leaves, and what each of its queries lists.
+pub record Row : Type 0 where
+  pub call : Call
+  pub answered : Outcome
+  pub listed : List (List ℕ)
+
+-- What a row says of the written meaning of its call (`outcome` and `queries` in Call.antt of wcs_refine).
+pub record Holds (r : Row) : Type 0 where
+  pub answers : outcome (r .call) ≡ r .answered
+  pub lists : queries (r .call) ≡ r .listed
+
+-- Every row of a list holds.
+abbrev pub All : List Row → Type 0
+All [] = Unit
+All (r ∷ rs) = Holds r × All rs
 '''
 
 def main(names):
@@ -275,13 +295,15 @@ def main(names):
         if names and name not in names: continue
         w = Writer(name, make(), about, lent); w.call()
         with open(os.path.join(PLACE, module + '.antt'), 'w') as f: f.write('\n'.join(w.out))
-        done.append((name, module, about, w.outcome))
-    top = TOP + ''.join('use Rattle.calls.specs.%s.{%s-call, %s-row}\n' % (m, n, n) for n, m, a, o in done)
-    top += '\npub record Calls : Type 0 where\n'
-    for n, m, a, o in done: top += '  -- %s\n  pub %s : outcome %s-call ≡ %s\n' % (a, n, n, o.replace('\n', '\n  '))
-    top += '\npub calls : Calls\ncalls = record {\n' + ''.join('  %s = %s-row;\n' % (n, n) for n, m, a, o in done) + '}\n'
+        row = record((('call', name + '-call'), ('answered', w.outcome), ('listed', w.listed)))
+        done.append((name, module, about, row))
+    top = TOP + ''.join('use Rattle.calls.specs.%s.{%s-call, %s-row, %s-listed}\n' % (m, n, n, n) for n, m, a, r in done) + ROW
+    for n, m, a, r in done: top += '\n-- %s\nabbrev pub %s : Row\n%s = %s\n' % (a, n, n, r)
+    top += '\n-- The rows, in this order.\nabbrev pub rows : List Row\nrows = %s\n' % several(n for n, m, a, r in done)
+    for n, m, a, r in done: top += '\n%s-holds : Holds %s\n%s-holds = record { answers = %s-row; lists = %s-listed }\n' % (n, n, n, n, n)
+    top += '\npub calls : All rows\ncalls = %stt%s\n' % (''.join('(%s-holds, ' % n for n, m, a, r in done), ')' * len(done))
     with open(os.path.join(PLACE, 'Calls.antt'), 'w') as f: f.write(top)
     with open(os.path.join(PLACE, 'Lib.antt'), 'w') as f:
-        f.write(''.join('pub mod %s\n' % m for m in ['Arithmetic', 'Instance', 'Steps'] + [m for n, m, a, o in done] + ['Calls']))
+        f.write(''.join('pub mod %s\n' % m for m in ['Arithmetic', 'Instance', 'Queried', 'Steps'] + [m for n, m, a, r in done] + ['Calls']))
 
 if __name__ == '__main__': main(sys.argv[1:])

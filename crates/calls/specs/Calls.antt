@@ -1,19 +1,39 @@
--- Whole calls, computed by the check from the written meaning: each comes to the answer that the reference gives.
+-- Whole calls, computed by the check from the written meaning: each comes to the answer that the reference gives, after these queries.
 -- Written by tools/rows/rows.py. Assumes nothing.
 use mathlib.Core.Path.{_≡_}
 use mathlib.Core.List.{List, [], _∷_}
+use Prim.Native.Nat.{ℕ}
 use lib.ListN.{replicate}
 use Rattle.rounding.specs.Arith.{f64, zero64, one64}
-use Rattle.wcs_refine.specs.Call.{Outcome, no, ok, outcome}
-use Rattle.calls.specs.FarTurn.{far-turn-call, far-turn-row}
-use Rattle.calls.specs.ManyPairs.{many-pairs-call, many-pairs-row}
-use Rattle.calls.specs.SecondQuery.{second-query-call, second-query-row}
-use Rattle.calls.specs.OneClip.{one-clip-call, one-clip-row}
-use Rattle.calls.specs.LastClip.{last-clip-call, last-clip-row}
+use Rattle.entry.specs.Arguments.{Call}
+use Rattle.wcs_refine.specs.Call.{Outcome, no, ok, outcome, queries}
+use Rattle.calls.specs.FarTurn.{far-turn-call, far-turn-row, far-turn-listed}
+use Rattle.calls.specs.ManyPairs.{many-pairs-call, many-pairs-row, many-pairs-listed}
+use Rattle.calls.specs.SecondQuery.{second-query-call, second-query-row, second-query-listed}
+use Rattle.calls.specs.OneClip.{one-clip-call, one-clip-row, one-clip-listed}
+use Rattle.calls.specs.LastClip.{last-clip-call, last-clip-row, last-clip-listed}
 
-pub record Calls : Type 0 where
-  -- A fit pass that turns the camera past 1,024: refusal 12.
-  pub far-turn : outcome far-turn-call ≡ record {
+-- A call, its answer with the lists that it leaves, and what each of its queries lists.
+pub record Row : Type 0 where
+  pub call : Call
+  pub answered : Outcome
+  pub listed : List (List ℕ)
+
+-- What a row says of the written meaning of its call (`outcome` and `queries` in Call.antt of wcs_refine).
+pub record Holds (r : Row) : Type 0 where
+  pub answers : outcome (r .call) ≡ r .answered
+  pub lists : queries (r .call) ≡ r .listed
+
+-- Every row of a list holds.
+abbrev pub All : List Row → Type 0
+All [] = Unit
+All (r ∷ rs) = Holds r × All rs
+
+-- A fit pass that turns the camera past 1,024: refusal 12.
+abbrev pub far-turn : Row
+far-turn = record {
+  call = far-turn-call;
+  answered = record {
     answer = no 12;
     lent = record {
       numbers = replicate 144 0;
@@ -22,9 +42,15 @@ pub record Calls : Type 0 where
       indices = replicate 128 0;
       result = 31 ∷ 32 ∷ 33 ∷ 34 ∷ 35 ∷ 36 ∷ 37 ∷ 38 ∷ [];
     };
-  }
-  -- More pairs within the radius than the candidate lists hold: refusal 13.
-  pub many-pairs : outcome many-pairs-call ≡ record {
+  };
+  listed = [];
+}
+
+-- More pairs within the radius than the candidate lists hold: refusal 13.
+abbrev pub many-pairs : Row
+many-pairs = record {
+  call = many-pairs-call;
+  answered = record {
     answer = no 13;
     lent = record {
       numbers = replicate 144 0;
@@ -33,9 +59,15 @@ pub record Calls : Type 0 where
       indices = replicate 16 0;
       result = 31 ∷ 32 ∷ 33 ∷ 34 ∷ 35 ∷ 36 ∷ 37 ∷ 38 ∷ 39 ∷ 40 ∷ 41 ∷ 42 ∷ [];
     };
-  }
-  -- Two rounds: the matches of the first turn the camera past the margin, and the second queries anew.
-  pub second-query : outcome second-query-call ≡ record {
+  };
+  listed = (0 ∷ 1 ∷ 2 ∷ 3 ∷ []) ∷ [];
+}
+
+-- Two rounds: the matches of the first turn the camera past the margin, and the second queries anew.
+abbrev pub second-query : Row
+second-query = record {
+  call = second-query-call;
+  answered = record {
     answer = ok (record {
       pose = record {
         theta = f64 0x3FAFF1AEF0BD32EF;
@@ -62,9 +94,15 @@ pub record Calls : Type 0 where
       indices = replicate 128 0;
       result = 1 ∷ 1 ∷ 0 ∷ 0 ∷ 3 ∷ 3 ∷ 2 ∷ 2 ∷ 39 ∷ 40 ∷ 41 ∷ 42 ∷ [];
     };
-  }
-  -- A clip: one of six starting matches lies too far off, and five are left.
-  pub one-clip : outcome one-clip-call ≡ record {
+  };
+  listed = (0 ∷ 1 ∷ 2 ∷ 3 ∷ []) ∷ (0 ∷ 1 ∷ 2 ∷ 3 ∷ []) ∷ [];
+}
+
+-- A clip: one of six starting matches lies too far off, and five are left.
+abbrev pub one-clip : Row
+one-clip = record {
+  call = one-clip-call;
+  answered = record {
     answer = ok (record {
       pose = record {
         theta = f64 0x3FA393F57453AF20;
@@ -91,9 +129,15 @@ pub record Calls : Type 0 where
       indices = replicate 512 0;
       result = 0 ∷ 0 ∷ 1 ∷ 1 ∷ 2 ∷ 2 ∷ 3 ∷ 3 ∷ 5 ∷ 5 ∷ 41 ∷ 42 ∷ 43 ∷ 44 ∷ [];
     };
-  }
-  -- Two rounds with one query, used up, and a clip with its fit at the closing.
-  pub last-clip : outcome last-clip-call ≡ record {
+  };
+  listed = (0 ∷ 1 ∷ 2 ∷ 3 ∷ 4 ∷ 5 ∷ []) ∷ [];
+}
+
+-- Two rounds with one query, used up, and a clip with its fit at the closing.
+abbrev pub last-clip : Row
+last-clip = record {
+  call = last-clip-call;
+  answered = record {
     answer = ok (record {
       pose = record {
         theta = f64 0x3F776D060E4C76B9;
@@ -120,13 +164,28 @@ pub record Calls : Type 0 where
       indices = replicate 128 0;
       result = 0 ∷ 0 ∷ 4 ∷ 4 ∷ 1 ∷ 1 ∷ 2 ∷ 2 ∷ 6 ∷ 6 ∷ 3 ∷ 3 ∷ 43 ∷ 44 ∷ 45 ∷ 46 ∷ [];
     };
-  }
-
-pub calls : Calls
-calls = record {
-  far-turn = far-turn-row;
-  many-pairs = many-pairs-row;
-  second-query = second-query-row;
-  one-clip = one-clip-row;
-  last-clip = last-clip-row;
+  };
+  listed = (0 ∷ 1 ∷ 2 ∷ 3 ∷ 4 ∷ 5 ∷ 6 ∷ []) ∷ [];
 }
+
+-- The rows, in this order.
+abbrev pub rows : List Row
+rows = far-turn ∷ many-pairs ∷ second-query ∷ one-clip ∷ last-clip ∷ []
+
+far-turn-holds : Holds far-turn
+far-turn-holds = record { answers = far-turn-row; lists = far-turn-listed }
+
+many-pairs-holds : Holds many-pairs
+many-pairs-holds = record { answers = many-pairs-row; lists = many-pairs-listed }
+
+second-query-holds : Holds second-query
+second-query-holds = record { answers = second-query-row; lists = second-query-listed }
+
+one-clip-holds : Holds one-clip
+one-clip-holds = record { answers = one-clip-row; lists = one-clip-listed }
+
+last-clip-holds : Holds last-clip
+last-clip-holds = record { answers = last-clip-row; lists = last-clip-listed }
+
+pub calls : All rows
+calls = (far-turn-holds, (many-pairs-holds, (second-query-holds, (one-clip-holds, (last-clip-holds, tt)))))

@@ -20,12 +20,13 @@ use Rattle.entry.specs.Fixed.{distance}
 use Rattle.wcs_refine.specs.Associate.{links}
 use Rattle.wcs_refine.specs.Call.{Outcome, Answer, ok, outcome, queries}
 use Rattle.wcs_refine.specs.Unseen.{Alike, OnlyUnseen, SpotUnchanged, DirectionUnchanged, DirectionUnseen, SpotUnseen, Listed}
-use Rattle.calls.specs.Arithmetic.{arithmetic}
+use Rattle.calls.specs.Arithmetic.{arithmetic, everything}
 use Rattle.wcs_refine.proofs.TwoCalls.{unseen-changes-nothing}
 
--- The camera looks along (1, 0, 0). Only the first spot is within the matching limit, and there is no starting match.
-abbrev given : Given
-given = record {
+-- The camera looks along (1, 0, 0). Only the first spot is within the matching limit, and there is no starting match. The working list of
+-- whole numbers has n places; with two spots and two directions 64 are enough.
+abbrev given : ℕ → Given
+given n = record {
   matches = [];
   rotation = (zero64 ∷ one64 ∷ zero64 ∷ []) ∷ (zero64 ∷ zero64 ∷ one64 ∷ []) ∷ (one64 ∷ zero64 ∷ zero64 ∷ []) ∷ [];
   scale = f64 0x3F50000000000000;
@@ -34,7 +35,7 @@ given = record {
   limit = 1;
   rounds = 1;
   lent = record {
-    numbers = replicate 64 7;
+    numbers = replicate n 7;
     floats = replicate 64 one64;
     distances = one64 ∷ one64 ∷ [];
     indices = 1 ∷ 2 ∷ 3 ∷ 4 ∷ [];
@@ -43,20 +44,21 @@ given = record {
 }
 
 -- Spots (5, 0) and (x, y); directions (1, 0, 0) and (u, v, 0).
-abbrev with : Float → Float → Float → Float → Call
-with x y u v = record {
+abbrev pub with : ℕ → Float → Float → Float → Float → Call
+with n x y u v = record {
   spots = f64 0x4014000000000000 ∷ zero64 ∷ x ∷ y ∷ [];
   directions = one64 ∷ zero64 ∷ zero64 ∷ u ∷ v ∷ zero64 ∷ [];
-  given = given;
+  given = given n;
 }
 
 -- The second spot is (3, 0) before and (0, 4) after; the second direction is (-1, 0, 0) before and (0, 1, 0) after.
 abbrev pub before : Call
-before = with (f64 0x4008000000000000) zero64 (neg one64) zero64
+before = with 64 (f64 0x4008000000000000) zero64 (neg one64) zero64
 
 abbrev pub after : Call
-after = with zero64 (f64 0x4010000000000000) zero64 one64
+after = with 64 zero64 (f64 0x4010000000000000) zero64 one64
 
+-- What both come to.
 abbrev pub expected : Outcome
 expected = record {
   answer = ok (record {
@@ -75,6 +77,7 @@ expected = record {
   };
 }
 
+-- Demand 3 of these two calls: its premises, what it claims, and the outcome itself.
 pub record Instance : Type 0 where
   -- The second spot and the second direction really differ.
   pub spot-differs : SpotUnchanged before after 1 → ⊥
@@ -99,11 +102,11 @@ unfolding directionAt arithmetic
 direction-apart e = true≢false (ap (λ (v : List Float). lt (at v 0) zero64) e)
 
 queried-before : queries before ≡ (0 ∷ []) ∷ []
-unfolding queries arithmetic
+unfolding everything
 queried-before = refl
 
 queried-after : queries after ≡ (0 ∷ []) ∷ []
-unfolding queries arithmetic
+unfolding everything
 queried-after = refl
 
 unlisted : (qs : List (List ℕ)) → qs ≡ (0 ∷ []) ∷ [] → Listed 1 qs → ⊥
@@ -136,7 +139,7 @@ only = record {
     spots (suc (suc i)) h d = absurd (omega arith)
 
 computed-before : outcome before ≡ expected
-unfolding outcome unconstrained arithmetic
+unfolding everything
 computed-before = refl
 
 pub instance : Instance

@@ -1,5 +1,6 @@
 pub mod Arithmetic
 pub mod Instance
+pub mod Queried
 pub mod Steps
 pub mod FarTurn
 pub mod ManyPairs

@@ -18,20 +18,19 @@ use Rattle.fit.specs.declared.Pose.{Pose}
 use Rattle.fit.specs.declared.Counted.{Counted}
 use Rattle.residuals.specs.declared.Clip.the-variants.{Kept, Unchanged}
 use Rattle.entry.specs.Arguments.{Call}
-use Rattle.entry.specs.Check.{refusal}
-use Rattle.entry.specs.Fixed.{Fixed, fixed}
+use Rattle.entry.specs.Fixed.{Fixed}
 use Rattle.passes.specs.Fit.{fitPasses, moved, sound, still}
 use Rattle.wcs_refine.specs.Clip.{Statistics, none, some, statistics, clipped, taken}
 use Rattle.wcs_refine.specs.Associate.{adaptivePx}
 use Rattle.query.specs.Query.{Cache, empty, full, axis32, leastCos, scanned, drifted, Prediction, predictions, pruned}
 use Rattle.wcs_refine.specs.Round.{State, Next, go, done, refuse, associated, Run, Ending, refused, ended, loop, round}
 use Rattle.wcs_refine.specs.Closing.{fine, cleaned, sumSquares, rootMean}
-use Rattle.wcs_refine.specs.Call.{Outcome, no, ok, start, left, outcome}
-use Rattle.calls.specs.Arithmetic.{arithmetic}
+use Rattle.wcs_refine.specs.Call.{Outcome, no, ok, left, outcome, queries}
+use Rattle.calls.specs.Arithmetic.{arithmetic, checks}
 use Rattle.calls.specs.Steps.{Pass, last-pass, unsound-pass, next-pass, no-pass, passesOf, Measured, Queried, first-search, new-search}
 use Rattle.calls.specs.Steps.{whole-round, unsound-round, roundOf, go-round, done-round, refused-round, ranOf}
 use Rattle.calls.specs.Steps.{Reused, same-search, no-round, Clipping, Refit, last-clip, next-clip}
-use Rattle.calls.specs.Steps.{no-clip, Reported, reportOf, Begun, refused-call, accepted-call}
+use Rattle.calls.specs.Steps.{no-clip, Reported, reportOf, Begun, queried-call, refused-call, accepted-call}
 
 abbrev spots : List Float
 spots =
@@ -103,7 +102,7 @@ abbrev state-0 : State
 state-0 = record { pose = pose-0; matches = 0 ∷ 0 ∷ 1 ∷ 1 ∷ 2 ∷ 2 ∷ 3 ∷ 3 ∷ 4 ∷ 4 ∷ 5 ∷ 5 ∷ []; cache = empty }
 
 begun : Begun one-clip-call k state-0
-unfolding refusal fixed start arithmetic
+unfolding checks
 begun = record { accepted = refl; same = refl; begins = refl }
 
 -- ---- round 1
@@ -498,6 +497,9 @@ run : loop k spots directions 2 state-0 ≡ ranOf (ended state-1) 1 8 ((0 ∷ 1 
 run = done-round k spots directions 1 state-0 round-1
 
 -- ---- the whole call
+
+pub one-clip-listed : queries one-clip-call ≡ (0 ∷ 1 ∷ 2 ∷ 3 ∷ 4 ∷ 5 ∷ []) ∷ []
+one-clip-listed = queried-call begun run
 
 abbrev rows-last : List Row
 rows-last =

@@ -31,7 +31,7 @@ use Rattle.query.specs.Query.{Cache, empty, full, query, axis32, leastCos, scan
 use Rattle.wcs_refine.specs.Round.{State, Next, go, done, refuse, Found, Round, associated, fresh, reused, searched, rest, fitted, round}
 use Rattle.wcs_refine.specs.Round.{Ending, refused, ended, Run, carry, loop}
 use Rattle.wcs_refine.specs.Closing.{Closed, fine, ifSound, refitted, recleaned, cleanedBy, cleaned, sumSquares, rootMean, Report, reported}
-use Rattle.wcs_refine.specs.Call.{Answer, no, ok, start, runOf, closed, finished, answer, answerAfter, left, Outcome, outcome}
+use Rattle.wcs_refine.specs.Call.{Answer, no, ok, start, runOf, queries, queriesAfter, closed, finished, answer, answerAfter, left, Outcome, outcome}
 
 -- ---- the passes of the fit
 
@@ -312,6 +312,12 @@ module _ {c : Call} {k : Fixed} {s : State} (h : Begun c k s) where
   ran : {r : Run} → loop k (c .spots) (c .directions) (c .given .rounds) s ≡ r → runOf c ≡ r
   unfolding runOf
   ran e = (λ i. loop (h .same i) (c .spots) (c .directions) (c .given .rounds) (h .begins i)) ∙ e
+
+  -- The queries of an accepted call are those of its run, whatever that comes to.
+  pub queried-call : {z : Ending} {r n : ℕ} {q : List (List ℕ)} → loop k (c .spots) (c .directions) (c .given .rounds) s ≡ ranOf z r n q →
+      queries c ≡ q
+  unfolding queries
+  queried-call e = (λ i. queriesAfter c (h .accepted i)) ∙ (λ i. ran e i .queries)
 
   outcome-of : {a : Answer} → answer c ≡ a → outcome c ≡ outcomeOf c a
   unfolding outcome

@@ -1,4 +1,5 @@
--- 01, "Cases, the starred ones proved": one theorem, whose rows the checker computes from the written meanings. Assumes nothing.
+-- 01, "Cases, the starred ones proved": a record for each starred line, and one theorem, `cases`, that all of them hold. The check computes every
+-- row from the written meanings. Assumes nothing.
 use mathlib.Core.Path.{_≡_, refl}
 use mathlib.Core.Bool.{Bool, true, false, cond}
 use mathlib.Core.List.{List, [], _∷_, map}
@@ -25,7 +26,13 @@ use Rattle.record.specs.Number.{written, number}
 use Rattle.record.specs.declared.Numbered.{Numbered}
 use Rattle.record.specs.declared.Numbered.the-variants.{Got, Short, Wrong}
 
--- whole numbers as floats
+-- Named on an `unfolding` line, this opens the arithmetic of floats.
+unfoldable arithmetic : Float → Float
+unfolding root rootOf place wholeRoot rootDigits narrowed units odd round size span climb sum add sub mul div neg lt le eq isNan ofFields ofBits
+    toBits ofInt absF isFinite totalKey totalLe
+arithmetic x = x
+
+-- Whole numbers as floats.
 abbrev f1 : Float
 f1 = one64
 
@@ -47,16 +54,45 @@ f6 = f64 0x4018000000000000
 abbrev f10 : Float
 f10 = f64 0x4024000000000000
 
--- the identity matrix with d for its first diagonal entry
+-- "127 is 7F; 128 is 80 01; 80 00 is refused (3)."
+pub record Numbers : Type 0 where
+  pub one-byte : written 127 ≡ 0x7F ∷ []
+  pub one-byte-read : number 32 (0x7F ∷ []) ≡ Got 127 1
+  pub two-bytes : written 128 ≡ 0x80 ∷ 0x01 ∷ []
+  pub two-bytes-read : number 32 (0x80 ∷ 0x01 ∷ []) ≡ Got 128 2
+  pub not-shortest : number 32 (0x80 ∷ 0x00 ∷ []) ≡ Wrong
+
+-- "Root of 2 is 3FF6A09E667F3BCD, of −0 is −0, of 2^-1074 is 2^-537; of −1, NaN."
+pub record Roots : Type 0 where
+  pub of-2 : toBits binary64 (root binary64 f2) ≡ 0x3FF6A09E667F3BCD
+  pub of-minus-0 : root binary64 (fin true 0 (pos 0)) ≡ fin true 0 (pos 0)
+  pub of-least : root binary64 (fin false 1 (negsuc 1073)) ≡ fin false 1 (negsuc 536)
+  pub of-minus-1 : root binary64 (fin true 1 (pos 0)) ≡ nan
+
+-- "1 + 2^-24 narrows to 1; 1 + 3 × 2^-24 to 1 + 2^-22."
+pub record Narrowings : Type 0 where
+  pub down : narrowed (fin false 16777217 (negsuc 23)) ≡ fin false 1 (pos 0)
+  pub up : narrowed (fin false 16777219 (negsuc 23)) ≡ fin false 4194305 (negsuc 21)
+
+-- The identity matrix with d for its first diagonal entry, and the right side.
 abbrev diagonal : Float → List (List Float)
 diagonal d = (d ∷ zero64 ∷ zero64 ∷ []) ∷ (zero64 ∷ f1 ∷ zero64 ∷ []) ∷ (zero64 ∷ zero64 ∷ f1 ∷ []) ∷ []
 
 abbrev side : List Float
 side = f1 ∷ f2 ∷ f3 ∷ []
 
--- six residuals with an outlier, six without, and six matches
+-- "Identity system, right side 1, 2, 3: solution 1, 2, 3. First diagonal 1e-30 passes, 9.9e-31 fails."
+pub record Systems : Type 0 where
+  pub identity : solve3x3 (diagonal f1) side ≡ Solved f1 f2 f3
+  pub least-pivot : solve3x3 (diagonal (f64 0x39B4484BFEEBC2A0)) side ≡ Solved (f64 0x46293E5939A08CE9) f2 f3
+  pub below-least : solve3x3 (diagonal (f64 0x39B4145FB7407151)) side ≡ Failed
+
+-- Six residuals with the outlier last, with the outlier first, and without one; and six matches.
 abbrev outlier : List Float
 outlier = f1 ∷ f1 ∷ f1 ∷ f1 ∷ f1 ∷ f10 ∷ []
+
+abbrev outlierFirst : List Float
+outlierFirst = f10 ∷ f1 ∷ f1 ∷ f1 ∷ f1 ∷ f1 ∷ []
 
 abbrev rising : List Float
 rising = f1 ∷ f2 ∷ f3 ∷ f4 ∷ f5 ∷ f6 ∷ []
@@ -67,55 +103,63 @@ six = 0 ∷ 10 ∷ 1 ∷ 11 ∷ 2 ∷ 12 ∷ 3 ∷ 13 ∷ 4 ∷ 14 ∷ 5 ∷ 15 
 abbrev clipped : List Float → Clipped
 clipped rs = madClipMatches rs six (medianMadSigma rs .median) (medianMadSigma rs .sigma)
 
-pub record Cases : Type 0 where
-  -- "127 is 7F; 128 is 80 01; 80 00 is refused (3)."
-  pub one-byte : written 127 ≡ 0x7F ∷ []
-  pub one-byte-read : number 32 (0x7F ∷ []) ≡ Got 127 1
-  pub two-bytes : written 128 ≡ 0x80 ∷ 0x01 ∷ []
-  pub two-bytes-read : number 32 (0x80 ∷ 0x01 ∷ []) ≡ Got 128 2
-  pub not-shortest : number 32 (0x80 ∷ 0x00 ∷ []) ≡ Wrong
-  -- "Root of 2 is 3FF6A09E667F3BCD, of −0 is −0, of 2^-1074 is 2^-537; of −1, NaN."
-  pub root-of-2 : toBits binary64 (root binary64 f2) ≡ 0x3FF6A09E667F3BCD
-  pub root-of-minus-0 : root binary64 (fin true 0 (pos 0)) ≡ fin true 0 (pos 0)
-  pub root-of-least : root binary64 (fin false 1 (negsuc 1073)) ≡ fin false 1 (negsuc 536)
-  pub root-of-minus-1 : root binary64 (fin true 1 (pos 0)) ≡ nan
-  -- "1 + 2^-24 narrows to 1; 1 + 3 × 2^-24 to 1 + 2^-22."
-  pub narrow-down : narrowed (fin false 16777217 (negsuc 23)) ≡ fin false 1 (pos 0)
-  pub narrow-up : narrowed (fin false 16777219 (negsuc 23)) ≡ fin false 4194305 (negsuc 21)
-  -- "Identity system, right side 1, 2, 3: solution 1, 2, 3. First diagonal 1e-30 passes, 9.9e-31 fails."
-  pub identity : solve3x3 (diagonal f1) side ≡ Solved f1 f2 f3
-  pub least-pivot : solve3x3 (diagonal (f64 0x39B4484BFEEBC2A0)) side ≡ Solved (f64 0x46293E5939A08CE9) f2 f3
-  pub below-least : solve3x3 (diagonal (f64 0x39B4145FB7407151)) side ≡ Failed
-  -- "Residuals 1,1,1,1,1,10: median 1, sigma 0, five kept. 1 to 6: median 4, sigma 1.4826 × 2, no clip."
+-- "Residuals 1,1,1,1,1,10: median 1, sigma 0, five kept. 1 to 6: median 4, sigma 1.4826 × 2, no clip."
+-- With the outlier first the five that are kept move to the front, and what stood last stays there.
+pub record Clips : Type 0 where
   pub outlier-statistics : medianMadSigma outlier ≡ record { median = f1; sigma = zero64 }
   pub outlier-clipped : clipped outlier ≡ record { answer = Kept 5; matches = six }
+  pub first-clipped : clipped outlierFirst ≡ record {
+    answer = Kept 5;
+    matches = 1 ∷ 11 ∷ 2 ∷ 12 ∷ 3 ∷ 13 ∷ 4 ∷ 14 ∷ 5 ∷ 15 ∷ 5 ∷ 15 ∷ [];
+  }
   pub rising-statistics : medianMadSigma rising ≡ record { median = f4; sigma = madScale ⊗ f2 }
   pub rising-kept : clipped rising ≡ record { answer = Unchanged; matches = six }
-  -- "Spots (0,0), (3,0), prediction (2,0), squared radius 4: spot 1 wins; with squared radius 0.5, nothing."
+
+-- "Spots (0,0), (3,0), prediction (2,0), squared radius 4: spot 1 wins; with squared radius 0.5, nothing."
+pub record Matchings : Type 0 where
   pub nearer-spot : matchesOf (zero64 ∷ zero64 ∷ f3 ∷ zero64 ∷ []) 2 (f2 ∷ zero64 ∷ []) f4 ≡ record { spot = 1; prediction = 0 } ∷ []
   pub too-far : matchesOf (zero64 ∷ zero64 ∷ f3 ∷ zero64 ∷ []) 2 (f2 ∷ zero64 ∷ []) (f64 0x3FE0000000000000) ≡ []
 
-pub cases : Cases
-unfolding written number root rootOf place wholeRoot rootDigits narrowed units odd round size span climb sum add sub mul div neg lt le eq isNan ofFields ofBits toBits ofInt absF isFinite totalKey totalLe medianMadSigma middle sorted insert deviations pairs pairsFrom pairsOf within squared pointAt merged mergeRuns mergeNeighbours merge into singles notAfter matchesOf assigned clashes solve3x3 solvedFrom substituted divides ifFinite solutionX solutionY solutionZ eliminated reduced minusFrom swapped usable pivotOf bestFrom better beside madClipMatches kept keptFrom keeps thresholdOf
-cases = record {
-  one-byte = refl;
-  one-byte-read = refl;
-  two-bytes = refl;
-  two-bytes-read = refl;
-  not-shortest = refl;
-  root-of-2 = refl;
-  root-of-minus-0 = refl;
-  root-of-least = refl;
-  root-of-minus-1 = refl;
-  narrow-down = refl;
-  narrow-up = refl;
-  identity = refl;
-  least-pivot = refl;
-  below-least = refl;
+-- The starred lines, in 01's order.
+abbrev pub lines : List (Type 0)
+lines = Numbers ∷ Roots ∷ Narrowings ∷ Systems ∷ Clips ∷ Matchings ∷ []
+
+-- Every one of them holds.
+abbrev pub All : List (Type 0) → Type 0
+All [] = Unit
+All (l ∷ ls) = l × All ls
+
+numbers : Numbers
+unfolding written number
+numbers = record { one-byte = refl; one-byte-read = refl; two-bytes = refl; two-bytes-read = refl; not-shortest = refl }
+
+roots : Roots
+unfolding arithmetic
+roots = record { of-2 = refl; of-minus-0 = refl; of-least = refl; of-minus-1 = refl }
+
+narrowings : Narrowings
+unfolding arithmetic
+narrowings = record { down = refl; up = refl }
+
+systems : Systems
+unfolding arithmetic solve3x3 solvedFrom substituted divides ifFinite solutionX solutionY solutionZ eliminated reduced minusFrom swapped usable
+    pivotOf bestFrom better beside
+systems = record { identity = refl; least-pivot = refl; below-least = refl }
+
+clips : Clips
+unfolding arithmetic medianMadSigma middle sorted insert deviations madClipMatches kept keptFrom keeps thresholdOf
+clips = record {
   outlier-statistics = refl;
   outlier-clipped = refl;
+  first-clipped = refl;
   rising-statistics = refl;
   rising-kept = refl;
-  nearer-spot = refl;
-  too-far = refl;
 }
+
+matchings : Matchings
+unfolding arithmetic pairs pairsFrom pairsOf within squared pointAt merged mergeRuns mergeNeighbours merge into singles notAfter matchesOf assigned
+    clashes
+matchings = record { nearer-spot = refl; too-far = refl }
+
+pub cases : All lines
+cases = (numbers, (roots, (narrowings, (systems, (clips, (matchings, tt))))))
