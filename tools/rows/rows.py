@@ -40,6 +40,7 @@ use Rattle.calls.specs.Steps.{no-clip, Reported, reportOf, Begun, querie
 '''
 # what a computed equation opens beside the definitions that it is about
 FLOATS = 'arithmetic'
+CAME = '-- What it comes to.\npub '
 
 def number(x):
     b = bits(x)
@@ -98,10 +99,11 @@ class Writer:
         given = record((('matches', flat(c.matches)), ('rotation', matrix(c.rotation)), ('scale', number(c.scale)), ('mirror', truth(c.mirror)),
             ('radius', number(c.radius)), ('limit', c.limit), ('rounds', c.rounds), ('lent', lent)))
         call = record((('spots', 'spots'), ('directions', 'directions'), ('given', given)))
-        w.out.append('abbrev pub %s-call : Call\n%s\n' % (w.name, after(w.name + '-call', call)))
+        w.out.append('-- The call, with its lent lists as they come.\nabbrev pub %s-call : Call\n%s\n' % (w.name, after(w.name + '-call', call)))
         for at, (n, vs) in enumerate((('spots', c.spots), ('directions', c.dirs)), 1):
             lines = [' ∷ '.join(map(number, v)) for v in vs] + ['[]']
-            w.out.insert(at, 'abbrev %s : List Float\n%s =\n    %s\n' % (n, n, '\n    ∷ '.join(lines)))
+            w.out.insert(at, '-- The call\'s %s.\nabbrev %s : List Float\n%s =\n    %s\n' % (n, n, n, '\n    ∷ '.join(lines)))
+        w.heading('what its run starts from')
         w.value('Fixed', 'k', record((('scale', number(c.scale)), ('mirror', truth(c.mirror)), ('radius', number(c.radius)),
             ('limit', c.limit), ('count', len(c.dirs)), ('capacity', c.capacity), ('cut', number(CUT)), ('far', number(c.far)))))
         p = w.value('Pose', 'pose-0', pose(c.start()))
@@ -110,10 +112,11 @@ class Writer:
         w.poses = 1
         loop = w.loop()
         w.heading('the whole call')
-        w.joined('%s-listed' % w.name, 'queries %s-call ≡ %s' % (w.name, w.listed), 'queried-call begun %s' % loop, pub='pub ')
+        w.joined('%s-listed' % w.name, 'queries %s-call ≡ %s' % (w.name, w.listed), 'queried-call begun %s' % loop,
+            pub='-- What each of its queries lists.\npub ')
         if c.answer['refusal']:
             w.outcome = record((('answer', 'no %d' % c.answer['refusal']), ('lent', w.left(result))))
-            w.joined('%s-row' % w.name, 'outcome %s-call ≡ %s' % (w.name, w.outcome), 'refused-call begun %s' % loop, 'left', 'pub ')
+            w.joined('%s-row' % w.name, 'outcome %s-call ≡ %s' % (w.name, w.outcome), 'refused-call begun %s' % loop, 'left', CAME)
         else: w.closing(loop)
 
     # lent lists by what they hold, and those that a call leaves
@@ -222,7 +225,7 @@ class Writer:
         w.outcome = record((('answer', 'ok (%s) %s' % (report, counts)), ('lent', w.left(result))))
         short = record((('answer', 'ok (reportOf %s %s %s %s (%s)) %s' % (p, cd, argument(a['rms']), cov, ms, counts)), ('lent', w.left(result))))
         w.joined('%s-row' % w.name, 'outcome %s-call ≡ %s' % (w.name, short),
-            'accepted-call begun %s\n    (%s) looked-last reported' % (run, cleaned), 'left', 'pub ')
+            'accepted-call begun %s\n    (%s) looked-last reported' % (run, cleaned), 'left', CAME)
 
     # the clips of the closing; answers the term for all of them
     def clips(w, e):
@@ -301,7 +304,7 @@ def main(names):
     for n, m, a, r in done: top += '\n-- %s\nabbrev pub %s : Row\n%s = %s\n' % (a, n, n, r)
     top += '\n-- The rows, in this order.\nabbrev pub rows : List Row\nrows = %s\n' % several(n for n, m, a, r in done)
     for n, m, a, r in done: top += '\n%s-holds : Holds %s\n%s-holds = record { answers = %s-row; lists = %s-listed }\n' % (n, n, n, n, n)
-    top += '\npub calls : All rows\ncalls = %stt%s\n' % (''.join('(%s-holds, ' % n for n, m, a, r in done), ')' * len(done))
+    top += '\n-- Every row holds.\npub calls : All rows\ncalls = %stt%s\n' % (''.join('(%s-holds, ' % n for n, m, a, r in done), ')' * len(done))
     with open(os.path.join(PLACE, 'Calls.antt'), 'w') as f: f.write(top)
     with open(os.path.join(PLACE, 'Lib.antt'), 'w') as f:
         f.write(''.join('pub mod %s\n' % m for m in ['Arithmetic', 'Instance', 'Queried', 'Steps'] + [m for n, m, a, r in done] + ['Calls']))

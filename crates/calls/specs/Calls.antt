@@ -187,5 +187,6 @@ one-clip-holds = record { answers = one-clip-row; lists = one-clip-listed }
 last-clip-holds : Holds last-clip
 last-clip-holds = record { answers = last-clip-row; lists = last-clip-listed }
 
+-- Every row holds.
 pub calls : All rows
 calls = (far-turn-holds, (many-pairs-holds, (second-query-holds, (one-clip-holds, (last-clip-holds, tt)))))

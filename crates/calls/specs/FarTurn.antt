@@ -32,6 +32,7 @@ use Rattle.calls.specs.Steps.{whole-round, unsound-round, roundOf, go-ro
 use Rattle.calls.specs.Steps.{Reused, same-search, no-round, Clipping, Refit, last-clip, next-clip}
 use Rattle.calls.specs.Steps.{no-clip, Reported, reportOf, Begun, queried-call, refused-call, accepted-call}
 
+-- The call's spots.
 abbrev spots : List Float
 spots =
     zero64 ∷ zero64
@@ -39,6 +40,7 @@ spots =
     ∷ zero64 ∷ f64 0x3EB0000000000000
     ∷ []
 
+-- The call's directions.
 abbrev directions : List Float
 directions =
     one64 ∷ f64 0x3F847AE140000000 ∷ zero64
@@ -46,6 +48,7 @@ directions =
     ∷ one64 ∷ f64 0x3F60624DE0000000 ∷ f64 0x3F86872B00000000
     ∷ []
 
+-- The call, with its lent lists as they come.
 abbrev pub far-turn-call : Call
 far-turn-call = record {
   spots = spots;
@@ -71,6 +74,8 @@ far-turn-call = record {
     };
   };
 }
+
+-- ---- what its run starts from
 
 abbrev k : Fixed
 k = record {
@@ -160,9 +165,11 @@ run = refused-round k spots directions 1 state-0 round-1
 
 -- ---- the whole call
 
+-- What each of its queries lists.
 pub far-turn-listed : queries far-turn-call ≡ []
 far-turn-listed = queried-call begun run
 
+-- What it comes to.
 pub far-turn-row : outcome far-turn-call ≡ record {
   answer = no 12;
   lent = record {

@@ -142,6 +142,7 @@ computed-before : outcome before ≡ expected
 unfolding everything
 computed-before = refl
 
+-- Demand 3 is not empty.
 pub instance : Instance
 instance = record {
   spot-differs = spot-apart;

@@ -32,6 +32,7 @@ use Rattle.calls.specs.Steps.{whole-round, unsound-round, roundOf, go-ro
 use Rattle.calls.specs.Steps.{Reused, same-search, no-round, Clipping, Refit, last-clip, next-clip}
 use Rattle.calls.specs.Steps.{no-clip, Reported, reportOf, Begun, queried-call, refused-call, accepted-call}
 
+-- The call's spots.
 abbrev spots : List Float
 spots =
     f64 0x4024B80000000000 ∷ f64 0xBFB4000000000000
@@ -43,6 +44,7 @@ spots =
     ∷ f64 0xBFA0000000000000 ∷ f64 0x4009200000000000
     ∷ []
 
+-- The call's directions.
 abbrev directions : List Float
 directions =
     one64 ∷ f64 0x3F847AE140000000 ∷ zero64
@@ -54,6 +56,7 @@ directions =
     ∷ one64 ∷ zero64 ∷ f64 0x3F689374C0000000
     ∷ []
 
+-- The call, with its lent lists as they come.
 abbrev pub last-clip-call : Call
 last-clip-call = record {
   spots = spots;
@@ -79,6 +82,8 @@ last-clip-call = record {
     };
   };
 }
+
+-- ---- what its run starts from
 
 abbrev k : Fixed
 k = record {
@@ -445,6 +450,7 @@ run = go-round k spots directions 1 state-0 round-1 (go-round k spots directions
 
 -- ---- the whole call
 
+-- What each of its queries lists.
 pub last-clip-listed : queries last-clip-call ≡ (0 ∷ 1 ∷ 2 ∷ 3 ∷ 4 ∷ 5 ∷ 6 ∷ []) ∷ []
 last-clip-listed = queried-call begun run
 
@@ -578,6 +584,7 @@ reported : Reported k pose-6 rows-refit-1 view-clip-2 residuals-clip-2
 unfolding viewOf residuals inFront sumSquares normalMatrix cdFromTheta rootMean covarianceFromNormal arithmetic
 reported = record { view = refl; values = refl; squares = refl; normal = refl; matrix = refl; mean = refl; spread = refl }
 
+-- What it comes to.
 pub last-clip-row : outcome last-clip-call ≡ record {
   answer = ok (reportOf pose-6 matrix (f64 0x3F1C3EB45A263353) spread (0 ∷ 0 ∷ 4 ∷ 4 ∷ 1 ∷ 1 ∷ 2 ∷ 2 ∷ 6 ∷ 6 ∷ 3 ∷ 3 ∷ [])) 2 5 1;
   lent = record {

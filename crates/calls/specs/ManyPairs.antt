@@ -32,6 +32,7 @@ use Rattle.calls.specs.Steps.{whole-round, unsound-round, roundOf, go-ro
 use Rattle.calls.specs.Steps.{Reused, same-search, no-round, Clipping, Refit, last-clip, next-clip}
 use Rattle.calls.specs.Steps.{no-clip, Reported, reportOf, Begun, queried-call, refused-call, accepted-call}
 
+-- The call's spots.
 abbrev spots : List Float
 spots =
     f64 0x4024700000000000 ∷ f64 0xBFE4800000000000
@@ -41,6 +42,7 @@ spots =
     ∷ f64 0x404E000000000000 ∷ zero64
     ∷ []
 
+-- The call's directions.
 abbrev directions : List Float
 directions =
     one64 ∷ f64 0x3F847AE140000000 ∷ zero64
@@ -49,6 +51,7 @@ directions =
     ∷ one64 ∷ f64 0xBF689374C0000000 ∷ f64 0xBF847AE140000000
     ∷ []
 
+-- The call, with its lent lists as they come.
 abbrev pub many-pairs-call : Call
 many-pairs-call = record {
   spots = spots;
@@ -74,6 +77,8 @@ many-pairs-call = record {
     };
   };
 }
+
+-- ---- what its run starts from
 
 abbrev k : Fixed
 k = record {
@@ -169,9 +174,11 @@ run = refused-round k spots directions 1 state-0 round-1
 
 -- ---- the whole call
 
+-- What each of its queries lists.
 pub many-pairs-listed : queries many-pairs-call ≡ (0 ∷ 1 ∷ 2 ∷ 3 ∷ []) ∷ []
 many-pairs-listed = queried-call begun run
 
+-- What it comes to.
 pub many-pairs-row : outcome many-pairs-call ≡ record {
   answer = no 13;
   lent = record {

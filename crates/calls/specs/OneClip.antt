@@ -32,6 +32,7 @@ use Rattle.calls.specs.Steps.{whole-round, unsound-round, roundOf, go-ro
 use Rattle.calls.specs.Steps.{Reused, same-search, no-round, Clipping, Refit, last-clip, next-clip}
 use Rattle.calls.specs.Steps.{no-clip, Reported, reportOf, Begun, queried-call, refused-call, accepted-call}
 
+-- The call's spots.
 abbrev spots : List Float
 spots =
     f64 0x4024B80000000000 ∷ f64 0xBFD4000000000000
@@ -42,6 +43,7 @@ spots =
     ∷ f64 0xC028900000000000 ∷ f64 0xBFFB800000000000
     ∷ []
 
+-- The call's directions.
 abbrev directions : List Float
 directions =
     one64 ∷ f64 0x3F847AE140000000 ∷ zero64
@@ -52,6 +54,7 @@ directions =
     ∷ one64 ∷ f64 0xBF889374C0000000 ∷ f64 0xBF60624DE0000000
     ∷ []
 
+-- The call, with its lent lists as they come.
 abbrev pub one-clip-call : Call
 one-clip-call = record {
   spots = spots;
@@ -77,6 +80,8 @@ one-clip-call = record {
     };
   };
 }
+
+-- ---- what its run starts from
 
 abbrev k : Fixed
 k = record {
@@ -498,6 +503,7 @@ run = done-round k spots directions 1 state-0 round-1
 
 -- ---- the whole call
 
+-- What each of its queries lists.
 pub one-clip-listed : queries one-clip-call ≡ (0 ∷ 1 ∷ 2 ∷ 3 ∷ 4 ∷ 5 ∷ []) ∷ []
 one-clip-listed = queried-call begun run
 
@@ -552,6 +558,7 @@ reported : Reported k pose-8 rows-last view-1 residuals-last
 unfolding viewOf residuals inFront sumSquares normalMatrix cdFromTheta rootMean covarianceFromNormal arithmetic
 reported = record { view = refl; values = refl; squares = refl; normal = refl; matrix = refl; mean = refl; spread = refl }
 
+-- What it comes to.
 pub one-clip-row : outcome one-clip-call ≡ record {
   answer = ok (reportOf pose-8 matrix (f64 0x3F41870C3D63CF50) spread (0 ∷ 0 ∷ 1 ∷ 1 ∷ 2 ∷ 2 ∷ 3 ∷ 3 ∷ 5 ∷ 5 ∷ [])) 1 8 1;
   lent = record {

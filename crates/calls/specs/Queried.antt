@@ -106,6 +106,7 @@ refused-after : outcome after ≡ turnedAway after
 unfolding everything
 refused-after = refl
 
+-- The sentence holds of them.
 pub queried : Queried
 queried = record {
   differs = apart;

@@ -32,6 +32,7 @@ use Rattle.calls.specs.Steps.{whole-round, unsound-round, roundOf, go-ro
 use Rattle.calls.specs.Steps.{Reused, same-search, no-round, Clipping, Refit, last-clip, next-clip}
 use Rattle.calls.specs.Steps.{no-clip, Reported, reportOf, Begun, queried-call, refused-call, accepted-call}
 
+-- The call's spots.
 abbrev spots : List Float
 spots =
     f64 0x4024700000000000 ∷ f64 0xBFE4800000000000
@@ -41,6 +42,7 @@ spots =
     ∷ f64 0x404E000000000000 ∷ zero64
     ∷ []
 
+-- The call's directions.
 abbrev directions : List Float
 directions =
     one64 ∷ f64 0x3F847AE140000000 ∷ zero64
@@ -49,6 +51,7 @@ directions =
     ∷ one64 ∷ f64 0xBF689374C0000000 ∷ f64 0xBF847AE140000000
     ∷ []
 
+-- The call, with its lent lists as they come.
 abbrev pub second-query-call : Call
 second-query-call = record {
   spots = spots;
@@ -74,6 +77,8 @@ second-query-call = record {
     };
   };
 }
+
+-- ---- what its run starts from
 
 abbrev k : Fixed
 k = record {
@@ -392,6 +397,7 @@ run = go-round k spots directions 2 state-0 round-1 (done-round k spots directio
 
 -- ---- the whole call
 
+-- What each of its queries lists.
 pub second-query-listed : queries second-query-call ≡ (0 ∷ 1 ∷ 2 ∷ 3 ∷ []) ∷ (0 ∷ 1 ∷ 2 ∷ 3 ∷ []) ∷ []
 second-query-listed = queried-call begun run
 
@@ -428,6 +434,7 @@ reported : Reported k pose-4 rows-2 view-2 residuals-2
 unfolding viewOf residuals inFront sumSquares normalMatrix cdFromTheta rootMean covarianceFromNormal arithmetic
 reported = record { view = refl; values = refl; squares = refl; normal = refl; matrix = refl; mean = refl; spread = refl }
 
+-- What it comes to.
 pub second-query-row : outcome second-query-call ≡ record {
   answer = ok (reportOf pose-4 matrix (f64 0x3EC4038552C1431A) spread (1 ∷ 1 ∷ 0 ∷ 0 ∷ 3 ∷ 3 ∷ 2 ∷ 2 ∷ [])) 2 4 2;
   lent = record {

@@ -45,6 +45,7 @@ pub record Pass (cut : Float) (rs : List Row) (p : Pose) (w : View) (t : Counted
   pub soundness : sound q ≡ whole
   pub stillness : still a b c ≡ rests
 
+-- What the passes come to, by its parts.
 abbrev pub passesOf : Pose → ℕ → Bool → Passes
 passesOf p n b = record { pose = p; passes = n; fine = b }
 
@@ -60,7 +61,7 @@ module _ {cut : Float} {rs : List Row} {p : Pose} {w : View} {t : Counted} {a b 
       ∙ (λ i. goesOn (sound (h .pose i)) (still a b c) (h .pose i) next)
       ∙ (λ i. goesOn (h .soundness i) (h .stillness i) q next)
 
-  -- The pass is the last one, since the pose rests or is not sound; or others follow.
+  -- The pass is the last one, since the pose rests (`last-pass`) or is not sound (`unsound-pass`); or others follow (`next-pass`).
   pub last-pass : (n : ℕ) → Pass cut rs p w t a b c q true true → fitPasses (suc n) cut rs p ≡ passesOf q 1 true
   unfolding goesOn
   last-pass n h = one-pass n h
@@ -90,6 +91,7 @@ pub record Measured (k : Fixed) (rs : List Row) (p : Pose) (ms : List ℕ) (w : 
   pub clip : clipped vs st ms ≡ left
   pub radius : adaptivePx k st ≡ r
 
+-- A search, a round and a run by their parts.
 abbrev pub foundOf : Next → List (List ℕ) → Found
 foundOf x qs = record { next = x; queries = qs }
 
@@ -144,6 +146,7 @@ pub record Reused (k : Fixed) (spots directions : List Float) (p : Pose) (ms : L
   pub places : predictions k directions m listed ≡ qs
   pub matcher : associated k spots p ms (full b t listed) r qs ≡ x
 
+-- The search with what is cached.
 pub same-search : {k : Fixed} {spots directions : List Float} {p : Pose} {ms : List ℕ} {r : Float} {b : List Float} {t : Float} {listed : List ℕ}
     {m : List (List Float)} {qs : List Prediction} {x : Next} → Reused k spots directions p ms r b t listed m qs x →
     searched k spots directions p ms r (full b t listed) ≡ foundOf x []
@@ -184,6 +187,7 @@ module _ (k : Fixed) (spots directions : List Float) where
 
   -- ---- the loop
 
+  -- A round after which the loop goes on, is done or refuses, and the loop with no round left.
   one-round : (n : ℕ) (s : State) {x : Next} {q : List (List ℕ)} {m : ℕ} →
       round k spots directions s ≡ roundOf x q m → loop k spots directions (suc n) s ≡ carry m q x (λ t. loop k spots directions n t)
   unfolding loop
@@ -281,6 +285,7 @@ pub record Reported (k : Fixed) (p : Pose) (rs : List Row) (w : View) (vs : List
   pub mean : rootMean sum vs ≡ rms
   pub spread : covarianceFromNormal (t .sums .ata0 ∷ t .sums .ata1 ∷ t .sums .ata2 ∷ []) sum (t .n) ≡ cov
 
+-- A report by its parts.
 abbrev pub reportOf : Pose → List (List Float) → Float → List (List Float) → List ℕ → Report
 reportOf p cd rms cov ms = record { pose = p; cd = cd; rms = rms; covariance = cov; matches = ms }
 
@@ -305,6 +310,7 @@ pub record Begun (c : Call) (k : Fixed) (s : State) : Type 0 where
   pub same : fixed c ≡ k
   pub begins : start (c .given) ≡ s
 
+-- The outcome of a call by its answer, with the lists that such an answer leaves.
 abbrev pub outcomeOf : Call → Answer → Outcome
 outcomeOf c a = record { answer = a; lent = left (c .given .lent) a }
 

@@ -124,7 +124,7 @@ pub record Matchings : Type 0 where
 abbrev pub lines : List (Type 0)
 lines = Numbers ∷ Roots ∷ Narrowings ∷ Systems ∷ Clips ∷ Matchings ∷ []
 
--- Every one of them holds.
+-- Every line of a list holds.
 abbrev pub All : List (Type 0) → Type 0
 All [] = Unit
 All (l ∷ ls) = l × All ls
@@ -161,5 +161,6 @@ unfolding arithmetic pairs pairsFrom pairsOf within squared pointAt merged merge
     clashes
 matchings = record { nearer-spot = refl; too-far = refl }
 
+-- The starred lines hold.
 pub cases : All lines
 cases = (numbers, (roots, (narrowings, (systems, (clips, (matchings, tt))))))

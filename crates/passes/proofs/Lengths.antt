@@ -2,10 +2,10 @@
 use mathlib.Core.Path.{_≡_, sym, ap, _∙_}
 use mathlib.Core.Bool.{Bool, true, false, _&&_}
 use lib.Ieee.{Float, lt, le}
-use Rattle.rounding.specs.Arith.{_⊕_, f64}
+use Rattle.rounding.specs.Arith.{_⊕_}
 use Rattle.rounding.specs.Methods.{absF}
 use Rattle.fit.specs.declared.Pose.{Pose}
-use Rattle.passes.specs.Fit.{sound, still}
+use Rattle.passes.specs.Fit.{mostAngle, sound, stillTheta, convergenceRad, still}
 
 -- The second test is the answer where the first holds, and else the first.
 pub and-second : (a b : Bool) {x : Bool} → a ≡ true → x ≡ b → x ≡ (a && b)
@@ -15,7 +15,7 @@ pub and-first : (a b : Bool) {x : Bool} → a ≡ false → x ≡ a → x ≡ (a
 and-first a b h e = e ∙ h ∙ ap (λ (y : Bool). y && b) (sym h)
 
 abbrev pub within : Float → Bool
-within x = le x (f64 0x4090000000000000)
+within x = le x mostAngle
 
 pub sound-of : (p : Pose) {t r d : Float} → t ≡ absF (p .theta) → r ≡ absF (p .ra) → d ≡ absF (p .dec)
     → (within t && within r && within d) ≡ sound p
@@ -26,10 +26,10 @@ sound-of p {t} {r} {d} e f g =
     ∙ ap (λ (x : Float). within (absF (p .theta)) && within (absF (p .ra)) && within x) g
 
 abbrev pub small : Float → Bool
-small x = lt x (f64 0x3DDB7CDFD9D7BDBB)
+small x = lt x stillTheta
 
 abbrev pub smaller : Float → Bool
-smaller x = lt x (f64 0x3D719799812DEA11)
+smaller x = lt x convergenceRad
 
 pub still-of : (a b c : Float) {t x y : Float} → t ≡ absF a → x ≡ absF b → y ≡ absF c → (small t && smaller (x ⊕ y)) ≡ still a b c
 unfolding still
