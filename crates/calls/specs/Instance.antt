@@ -23,8 +23,8 @@ use Rattle.wcs_refine.specs.Unseen.{Alike, OnlyUnseen, SpotUnchanged, Direction
 use Rattle.calls.specs.Arithmetic.{arithmetic, everything}
 use Rattle.wcs_refine.proofs.TwoCalls.{unseen-changes-nothing}
 
--- The camera looks along (1, 0, 0). Only the first spot is within the matching limit, and there is no starting match. The working list of
--- whole numbers has n places; with two spots and two directions 64 are enough.
+-- The camera looks along (1, 0, 0), at 2^-10 radians per pixel and with a radius of 2^-7. Only the first spot is within the matching limit, and
+-- there is no starting match. The working list of whole numbers has n places; with two spots and two directions 64 are enough.
 abbrev given : ℕ → Given
 given n = record {
   matches = [];
@@ -122,7 +122,8 @@ only = record {
   spot = spots;
 }
   where
-    directions : (j : ℕ) → j < 2 → (DirectionUnchanged before after j → ⊥) → DirectionUnseen before j × DirectionUnseen after j
+    directions : (j : ℕ) → j < 2 → (DirectionUnchanged before after j → ⊥) →
+        DirectionUnseen before j × DirectionUnseen after j
     directions zero h d = absurd (d refl)
     directions (suc zero) h d = (
       record { unnamed = λ n. n; unlisted = unlisted (queries before) queried-before; lawful = tt },

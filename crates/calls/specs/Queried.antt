@@ -87,7 +87,8 @@ only = record {
   spot = spots;
 }
   where
-    directions : (j : ℕ) → j < 2 → (DirectionUnchanged before after j → ⊥) → DirectionUnseen before j × DirectionUnseen after j
+    directions : (j : ℕ) → j < 2 → (DirectionUnchanged before after j → ⊥) →
+        DirectionUnseen before j × DirectionUnseen after j
     directions zero h d = absurd (d refl)
     directions (suc zero) h d = (
       record { unnamed = λ n. n; unlisted = subst (Listed 1) nothing-before; lawful = tt },

@@ -320,8 +320,8 @@ module _ {c : Call} {k : Fixed} {s : State} (h : Begun c k s) where
   ran e = (λ i. loop (h .same i) (c .spots) (c .directions) (c .given .rounds) (h .begins i)) ∙ e
 
   -- The queries of an accepted call are those of its run, whatever that comes to.
-  pub queried-call : {z : Ending} {r n : ℕ} {q : List (List ℕ)} → loop k (c .spots) (c .directions) (c .given .rounds) s ≡ ranOf z r n q →
-      queries c ≡ q
+  pub queried-call : {z : Ending} {r n : ℕ} {q : List (List ℕ)} →
+      loop k (c .spots) (c .directions) (c .given .rounds) s ≡ ranOf z r n q → queries c ≡ q
   unfolding queries
   queried-call e = (λ i. queriesAfter c (h .accepted i)) ∙ (λ i. ran e i .queries)
 

@@ -74,6 +74,16 @@ pub record Narrowings : Type 0 where
   pub down : narrowed (fin false 16777217 (negsuc 23)) ≡ fin false 1 (pos 0)
   pub up : narrowed (fin false 16777219 (negsuc 23)) ≡ fin false 4194305 (negsuc 21)
 
+-- 1e-30, 9.9e-31, and 1 divided by the first, rounded.
+abbrev least : Float
+least = f64 0x39B4484BFEEBC2A0
+
+abbrev below : Float
+below = f64 0x39B4145FB7407151
+
+abbrev great : Float
+great = f64 0x46293E5939A08CE9
+
 -- The identity matrix with d for its first diagonal entry, and the right side.
 abbrev diagonal : Float → List (List Float)
 diagonal d = (d ∷ zero64 ∷ zero64 ∷ []) ∷ (zero64 ∷ f1 ∷ zero64 ∷ []) ∷ (zero64 ∷ zero64 ∷ f1 ∷ []) ∷ []
@@ -84,8 +94,8 @@ side = f1 ∷ f2 ∷ f3 ∷ []
 -- "Identity system, right side 1, 2, 3: solution 1, 2, 3. First diagonal 1e-30 passes, 9.9e-31 fails."
 pub record Systems : Type 0 where
   pub identity : solve3x3 (diagonal f1) side ≡ Solved f1 f2 f3
-  pub least-pivot : solve3x3 (diagonal (f64 0x39B4484BFEEBC2A0)) side ≡ Solved (f64 0x46293E5939A08CE9) f2 f3
-  pub below-least : solve3x3 (diagonal (f64 0x39B4145FB7407151)) side ≡ Failed
+  pub least-pivot : solve3x3 (diagonal least) side ≡ Solved great f2 f3
+  pub below-least : solve3x3 (diagonal below) side ≡ Failed
 
 -- Six residuals with the outlier last, with the outlier first, and without one; and six matches.
 abbrev outlier : List Float
@@ -115,10 +125,20 @@ pub record Clips : Type 0 where
   pub rising-statistics : medianMadSigma rising ≡ record { median = f4; sigma = madScale ⊗ f2 }
   pub rising-kept : clipped rising ≡ record { answer = Unchanged; matches = six }
 
+-- Two spots, a prediction, and 0.5.
+abbrev spots : List Float
+spots = zero64 ∷ zero64 ∷ f3 ∷ zero64 ∷ []
+
+abbrev predictions : List Float
+predictions = f2 ∷ zero64 ∷ []
+
+abbrev half : Float
+half = f64 0x3FE0000000000000
+
 -- "Spots (0,0), (3,0), prediction (2,0), squared radius 4: spot 1 wins; with squared radius 0.5, nothing."
 pub record Matchings : Type 0 where
-  pub nearer-spot : matchesOf (zero64 ∷ zero64 ∷ f3 ∷ zero64 ∷ []) 2 (f2 ∷ zero64 ∷ []) f4 ≡ record { spot = 1; prediction = 0 } ∷ []
-  pub too-far : matchesOf (zero64 ∷ zero64 ∷ f3 ∷ zero64 ∷ []) 2 (f2 ∷ zero64 ∷ []) (f64 0x3FE0000000000000) ≡ []
+  pub nearer-spot : matchesOf spots 2 predictions f4 ≡ record { spot = 1; prediction = 0 } ∷ []
+  pub too-far : matchesOf spots 2 predictions half ≡ []
 
 -- The starred lines, in 01's order.
 abbrev pub lines : List (Type 0)

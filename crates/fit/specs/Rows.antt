@@ -26,7 +26,11 @@ spotAt spots i = record { px = getD spots (2 * i) nan; py = getD spots (2 * i + 
 
 -- `star_vectors.get(i)`: directions lie flat, three components each. Past the list's end each reads as NaN.
 unfoldable pub directionAt : List Float → ℕ → List Float
-directionAt directions i = getD directions (3 * i) nan ∷ getD directions (3 * i + 1) nan ∷ getD directions (3 * i + 2) nan ∷ []
+directionAt directions i =
+    getD directions (3 * i) nan
+    ∷ getD directions (3 * i + 1) nan
+    ∷ getD directions (3 * i + 2) nan
+    ∷ []
 
 -- The row of match k, `matches[k]`. 01: "spot then direction", so the list lies flat.
 unfoldable pub rowAt : List Float → List Float → List ℕ → ℕ → Row
@@ -59,7 +63,13 @@ pub record View : Type 0 where
 -- The view at a pose: `theta.cos()`, `theta.sin()` and `tan_basis(crval_ra, crval_dec)` at the head of those functions.
 unfoldable pub viewOf : Pose → Float → View
 unfolding tanBasis sin cos
-viewOf p cut = record { basis = tanBasis (p .ra) (p .dec); cosT = cos (p .theta); sinT = sin (p .theta); ps = p .scale; cut = cut }
+viewOf p cut = record {
+  basis = tanBasis (p .ra) (p .dec);
+  cosT = cos (p .theta);
+  sinT = sin (p .theta);
+  ps = p .scale;
+  cut = cut;
+}
 
 -- The code's side: it carries the basis by itself and a Turn with all else.
 abbrev pub viewAt : List (List Float) → Turn → View

@@ -40,7 +40,11 @@ fn added_row(old: [f64; 3], a: f64, jxi: [f64; 3], c: f64, jeta: [f64; 3]) -> [f
 
 // The same for the right side.
 fn added_side(old: [f64; 3], jxi: [f64; 3], r_xi: f64, jeta: [f64; 3], r_eta: f64) -> [f64; 3]
-    ensures { λ r. ⌜ r ≡ added (at old 0) (at jxi 0) «r_xi» (at jeta 0) «r_eta» ∷ added (at old 1) (at jxi 1) «r_xi» (at jeta 1) «r_eta» ∷ added (at old 2) (at jxi 2) «r_xi» (at jeta 2) «r_eta» ∷ [] ⌝ }
+    ensures { λ r.
+        ⌜ r ≡ added (at old 0) (at jxi 0) «r_xi» (at jeta 0) «r_eta»
+        ∷ added (at old 1) (at jxi 1) «r_xi» (at jeta 1) «r_eta»
+        ∷ added (at old 2) (at jxi 2) «r_xi» (at jeta 2) «r_eta»
+        ∷ [] ⌝ }
 {
     let x = added(old[0], jxi[0], r_xi, jeta[0], r_eta);
     let y = added(old[1], jxi[1], r_xi, jeta[1], r_eta);
@@ -146,7 +150,9 @@ fn summed(
     basis: [[f64; 3]; 3],
     t: Turn,
 ) -> Counted
-    ensures { λ r. ⌜ r ≡ withRows fitting (viewAt basis t) noMatches (rows (now (spots .entry)) (now (directions .entry)) (now (matches .entry))) ⌝ }
+    ensures { λ r.
+        ⌜ r ≡ withRows fitting (viewAt basis t) noMatches
+        (rows (now (spots .entry)) (now (directions .entry)) (now (matches .entry))) ⌝ }
 {
     let n = matches.len() / 2;
     let mut s = no_matches();
@@ -169,7 +175,9 @@ pub fn normal_matrix(
     pose: Pose,
     cut: f64,
 ) -> Counted
-    ensures { λ r. ⌜ r ≡ normalMatrix (viewOf pose cut) (rows (now (spots .entry)) (now (directions .entry)) (now (matches .entry))) ⌝ }
+    ensures { λ r.
+        ⌜ r ≡ normalMatrix (viewOf pose cut)
+        (rows (now (spots .entry)) (now (directions .entry)) (now (matches .entry))) ⌝ }
 {
     let basis = tan_basis(pose.ra, pose.dec);
     let t = turn_of(pose, cut);
@@ -199,7 +207,9 @@ pub fn ls_fit_once(
     pose: Pose,
     cut: f64,
 ) -> Solution
-    ensures { λ r. ⌜ r ≡ lsFitOnce (viewOf pose cut) (rows (now (spots .entry)) (now (directions .entry)) (now (matches .entry))) ⌝ }
+    ensures { λ r.
+        ⌜ r ≡ lsFitOnce (viewOf pose cut)
+        (rows (now (spots .entry)) (now (directions .entry)) (now (matches .entry))) ⌝ }
 {
     let basis = tan_basis(pose.ra, pose.dec);
     let t = turn_of(pose, cut);

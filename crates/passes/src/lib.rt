@@ -65,7 +65,9 @@ pub fn fit_passes(
     pose: Pose,
     cut: f64,
 ) -> Passed
-    ensures { λ r. ⌜ passesOf r ≡ fitPasses 10 cut (rows (now (spots .entry)) (now (directions .entry)) (now (matches .entry))) pose ⌝ }
+    ensures { λ r.
+        ⌜ passesOf r ≡ fitPasses 10 cut
+        (rows (now (spots .entry)) (now (directions .entry)) (now (matches .entry))) pose ⌝ }
 {
     let n = matches.len() / 2;
     let mut p = pose;

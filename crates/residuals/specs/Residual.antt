@@ -72,7 +72,10 @@ residualMedianSigma l n = medianMadSigma (inFront (take (leading l n) l))
 -- The code's side: what it answers, and the list afterwards: the residuals as they were, then zeros where they were gathered, then what stood there.
 pub record Measured (l after : List Float) (n : ℕ) (r : MedianSigma) : Type 0 where
   pub result : r ≡ residualMedianSigma l n
-  pub lists : after ≡ take (leading l n) l ++ replicate (length (inFront (take (leading l n) l))) zero64 ++ drop (leading l n + length (inFront (take (leading l n) l))) l
+  pub lists : after ≡
+      take (leading l n) l
+      ++ replicate (length (inFront (take (leading l n) l))) zero64
+      ++ drop (leading l n + length (inFront (take (leading l n) l))) l
 
 -- ---- the clip
 

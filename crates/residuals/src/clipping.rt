@@ -41,7 +41,12 @@ fn count_kept(residuals: &[f64], n: usize, threshold: f64) -> usize
 
 // Those that are kept move to the front, and what stands after them stays.
 fn compact(residuals: &[f64], matches: &mut [usize], threshold: f64)
-    ensures { λ _. ⌜ now (matches .exit) ≡ keptFrom threshold (now (residuals .entry)) (now (matches .entry)) 0 (length (now (matches .entry)) / 2) ++ drop (length (keptFrom threshold (now (residuals .entry)) (now (matches .entry)) 0 (length (now (matches .entry)) / 2))) (now (matches .entry)) ⌝ }
+    ensures { λ _.
+        ⌜ now (matches .exit) ≡
+        keptFrom threshold (now (residuals .entry)) (now (matches .entry)) 0 (length (now (matches .entry)) / 2)
+        ++ drop (length
+        (keptFrom threshold (now (residuals .entry)) (now (matches .entry)) 0 (length (now (matches .entry)) / 2)))
+        (now (matches .entry)) ⌝ }
 {
     let n = matches.len() / 2;
     let mut k: usize = 0;
@@ -60,7 +65,8 @@ fn compact(residuals: &[f64], matches: &mut [usize], threshold: f64)
 
 // The matches whose residuals are at most median + 3 sigma are kept, if that drops some of them and leaves enough; else all stay.
 pub fn mad_clip_matches(residuals: &[f64], matches: &mut [usize], median: f64, sigma: f64) -> Clip
-    ensures { λ r. ⌜ clipped r (now (matches .exit)) ≡ madClipMatches (now (residuals .entry)) (now (matches .entry)) median sigma ⌝ }
+    ensures { λ r.
+        ⌜ clipped r (now (matches .exit)) ≡ madClipMatches (now (residuals .entry)) (now (matches .entry)) median sigma ⌝ }
 {
     let n = matches.len() / 2;
     let threshold = median + CLIP_NSIGMA * sigma;

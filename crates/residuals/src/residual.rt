@@ -62,7 +62,10 @@ fn residuals(
     t: Turn,
     out: &mut [f64],
 ) -> usize
-    ensures { λ r. ⌜ Computed (residuals (viewAt basis t) (rows (now (spots .entry)) (now (directions .entry)) (now (matches .entry)))) (now (out .entry)) (now (out .exit)) r ⌝ }
+    ensures { λ r.
+        ⌜ Computed (residuals (viewAt basis t)
+        (rows (now (spots .entry)) (now (directions .entry)) (now (matches .entry))))
+        (now (out .entry)) (now (out .exit)) r ⌝ }
 {
     let n = matches.len() / 2;
     let mut count: usize = 0;
@@ -88,7 +91,10 @@ pub fn compute_residuals(
     cut: f64,
     out: &mut [f64],
 ) -> usize
-    ensures { λ r. ⌜ Computed (residuals (viewOf pose cut) (rows (now (spots .entry)) (now (directions .entry)) (now (matches .entry)))) (now (out .entry)) (now (out .exit)) r ⌝ }
+    ensures { λ r.
+        ⌜ Computed (residuals (viewOf pose cut)
+        (rows (now (spots .entry)) (now (directions .entry)) (now (matches .entry))))
+        (now (out .entry)) (now (out .exit)) r ⌝ }
 {
     let basis = tan_basis(pose.ra, pose.dec);
     let t = turn_of(pose, cut);
@@ -98,7 +104,10 @@ pub fn compute_residuals(
 // The first n residuals, without the marks, are copied to the places after them: so many.
 fn gather(l: &mut [f64], n: usize) -> usize
     requires { ⌜ 2 * n ≤ length (now l) ⌝ }
-    ensures { λ r. ⌜ (r ≡ length (inFront (take n (now (l .entry))))) × (now (l .exit) ≡ take n (now (l .entry)) ++ inFront (take n (now (l .entry))) ++ drop (n + r) (now (l .entry))) ⌝ }
+    ensures { λ r.
+        ⌜ (r ≡ length (inFront (take n (now (l .entry)))))
+        × (now (l .exit) ≡
+        take n (now (l .entry)) ++ inFront (take n (now (l .entry))) ++ drop (n + r) (now (l .entry))) ⌝ }
 {
     let mut k: usize = 0;
     let mut i: usize = 0;

@@ -347,6 +347,7 @@ pub(crate) fn long() {
     lent(b"working lists exactly long enough", 1, 64, 64, 2);
     lent(b"whole numbers one place short", 1, 63, 64, 2);
     lent(b"floats one place short", 1, 64, 63, 2);
+    lent(b"result long enough for the match", 0, 64, 64, 2);
     lent(b"result one place short for the match", 0, 64, 64, 1);
     lent(b"result long enough for both spots", 2, 64, 64, 4);
     lent(b"result one place short for both spots", 2, 64, 64, 3);
