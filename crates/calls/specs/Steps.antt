@@ -312,7 +312,7 @@ pub record Begun (c : Call) (k : Fixed) (s : State) : Type 0 where
 
 -- The outcome of a call by its answer, with the lists that such an answer leaves.
 abbrev pub outcomeOf : Call → Answer → Outcome
-outcomeOf c a = record { answer = a; lent = left (c .given .lent) a }
+outcomeOf c a = record { answer = a; lent = left (c .given .lent) 0 a }
 
 module _ {c : Call} {k : Fixed} {s : State} (h : Begun c k s) where
   ran : {r : Run} → loop k (c .spots) (c .directions) (c .given .rounds) s ≡ r → runOf c ≡ r
@@ -327,7 +327,7 @@ module _ {c : Call} {k : Fixed} {s : State} (h : Begun c k s) where
 
   outcome-of : {a : Answer} → answer c ≡ a → outcome c ≡ outcomeOf c a
   unfolding outcome
-  outcome-of e = λ i. record { answer = e i; lent = left (c .given .lent) (e i) }
+  outcome-of e = λ i. record { answer = e i; lent = left (c .given .lent) (h .accepted i) (e i) }
 
   -- A refusal of the run is the call's.
   pub refused-call : {y r n : ℕ} {q : List (List ℕ)} → loop k (c .spots) (c .directions) (c .given .rounds) s ≡ ranOf (refused y) r n q →

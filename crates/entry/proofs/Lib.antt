@@ -1,3 +1,3 @@
-pub mod CallParts
 pub mod ListTests
+pub mod Stages
 pub mod StartPoses

@@ -17,8 +17,7 @@ use Rattle.project.specs.Camera.{east, north}
 use Rattle.fit.specs.Rows.{spotAt}
 use Rattle.fit.specs.declared.Pose.{Pose}
 use Rattle.fit.specs.declared.Spot.{Spot}
-use Rattle.entry.specs.Arguments.{Given}
-use Rattle.entry.specs.Fixed.{distance, farthest, startPose}
+use Rattle.entry.specs.Fixed.{distance, farthest, startPoseOf}
 
 -- ---- the greatest distance
 
@@ -76,9 +75,10 @@ made m scale ra dec = record {
   scale = scale;
 }
 
-start-made : (g : Given) → made (g .rotation) (g .scale) (atan2 (entry (g .rotation) 2 1) (entry (g .rotation) 2 0)) (asin (clampF (entry (g .rotation) 2 2) minusOne one64)) ≡ startPose g
-unfolding startPose made
-start-made g = refl
+start-made : (m : List (List Float)) (scale : Float)
+    → made m scale (atan2 (entry m 2 1) (entry m 2 0)) (asin (clampF (entry m 2 2) minusOne one64)) ≡ startPoseOf m scale
+unfolding startPoseOf made
+start-made m scale = refl
 
 minus-one : neg one64 ≡ minusOne
 unfolding ofBits neg
@@ -89,19 +89,18 @@ widened-dot : {x : List Float} (v n : List Float) → x ≡ at v 0 ∷ at v 1 �
 unfolding dot
 widened-dot v n e = ap (λ (w : List Float). dot w n) e
 
-module _ (g : Given) {m : List (List Float)} {scale : Float} (em : g .rotation ≡ m) (es : g .scale ≡ scale)
-    {z x : List Float} (ez : z ≡ entry m 2 0 ∷ entry m 2 1 ∷ entry m 2 2 ∷ []) (ex : x ≡ entry m 0 0 ∷ entry m 0 1 ∷ entry m 0 2 ∷ []) where
+module _ (m : List (List Float)) {z x : List Float} (ez : z ≡ entry m 2 0 ∷ entry m 2 1 ∷ entry m 2 2 ∷ []) (ex : x ≡ entry m 0 0 ∷ entry m 0 1 ∷ entry m 0 2 ∷ []) where
   pub posed : {ra held dec : Float} → ra ≡ atan2 (at z 1) (at z 0) → held ≡ clampF (at z 2) (neg one64) one64 → dec ≡ asin held
       → {n e : List Float} → n ≡ north ra dec → e ≡ east ra
       → {a b theta : Float} → a ≡ dot x n → b ≡ dot x e → theta ≡ atan2 a b
-      → _≡_ {A = Pose} (record { theta = theta; ra = ra; dec = dec; scale = scale }) (startPose g)
+      → {scale : Float} → _≡_ {A = Pose} (record { theta = theta; ra = ra; dec = dec; scale = scale }) (startPoseOf m scale)
   unfolding made
-  posed {ra} {held} {dec} er eh ed {n} {e} en ee {a} {b} {theta} ea eb et =
+  posed {ra} {held} {dec} er eh ed {n} {e} en ee {a} {b} {theta} ea eb et {scale} =
       let r : ra ≡ atan2 (entry m 2 1) (entry m 2 0) = er ∙ ap (λ (v : List Float). atan2 (at v 1) (at v 0)) ez in
       let h : held ≡ clampF (entry m 2 2) minusOne one64 = eh ∙ (ap (λ (v : List Float). clampF (at v 2) (neg one64) one64) ez ∙ ap (λ (y : Float). clampF (entry m 2 2) y one64) minus-one) in
       let wa : dot x n ≡ dot (row m 0) n = widened-dot (row m 0) n ex in
       let wb : dot x e ≡ dot (row m 0) e = widened-dot (row m 0) e ex in
       let t : theta ≡ atan2 (dot (row m 0) (north ra dec)) (dot (row m 0) (east ra)) = cc in
       let p : _≡_ {A = Pose} (record { theta = theta; ra = ra; dec = dec; scale = scale }) (made m scale ra dec) = ap (λ (y : Float). record { theta = y; ra = ra; dec = dec; scale = scale }) t in
-      let q : made m scale ra dec ≡ made (g .rotation) (g .scale) (atan2 (entry (g .rotation) 2 1) (entry (g .rotation) 2 0)) (asin (clampF (entry (g .rotation) 2 2) minusOne one64)) = cc in
-      p ∙ (q ∙ start-made g)
+      let q : made m scale ra dec ≡ made m scale (atan2 (entry m 2 1) (entry m 2 0)) (asin (clampF (entry m 2 2) minusOne one64)) = cc in
+      p ∙ (q ∙ start-made m scale)

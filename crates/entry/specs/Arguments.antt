@@ -30,6 +30,7 @@ pub record Call : Type 0 where
   pub directions : List Float
   pub given : Given
 
+-- How many spots, starting matches and directions a call has.
 abbrev pub spotCount : Call → ℕ
 spotCount c = length (c .spots) / 2
 
@@ -39,12 +40,20 @@ matchCount c = length (c .given .matches) / 2
 abbrev pub directionCount : Call → ℕ
 directionCount c = length (c .directions) / 3
 
--- 01, refusal 11: the places that a working list, and the result list, must have.
+-- 01, refusal 11: the places that a working list must have, "16 × (spots + matches + directions)", for so many of each.
+abbrev pub workFor : ℕ → ℕ → ℕ → ℕ
+workFor s m d = 16 * (s + m + d)
+
+-- "or the result list than twice the larger of the match count and min(spots, matching limit)"
+abbrev pub resultFor : ℕ → ℕ → ℕ → ℕ
+resultFor s m limit = 2 * max m (min s limit)
+
+-- The same of a call.
 abbrev pub total : Call → ℕ
 total c = spotCount c + matchCount c + directionCount c
 
 abbrev pub workPlaces : Call → ℕ
-workPlaces c = 16 * total c
+workPlaces c = workFor (spotCount c) (matchCount c) (directionCount c)
 
 abbrev pub resultPlaces : Call → ℕ
-resultPlaces c = 2 * max (matchCount c) (min (spotCount c) (c .given .limit))
+resultPlaces c = resultFor (spotCount c) (matchCount c) (c .given .limit)

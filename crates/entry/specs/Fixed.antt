@@ -1,6 +1,6 @@
 -- What a run computes once from its arguments: the head of `wcs_refine`, and the radii of its re-association, which are the same in every round.
 -- Definitions only. Assumes nothing.
-use Prim.Native.Nat.{ℕ, zero, suc, _+_, _*_}
+use Prim.Native.Nat.{ℕ, zero, suc, _/_}
 use mathlib.Core.Bool.{Bool, cond}
 use mathlib.Core.List.{List}
 use lib.ListN.{getD, length}
@@ -10,14 +10,14 @@ use Rattle.rounding.specs.Root.{root}
 use Rattle.rounding.specs.Methods.{maxF, clampF}
 use Rattle.angles.specs.SinCos.{cos}
 use Rattle.angles.specs.Inverse.{asin, atan2}
-use Rattle.pairs.specs.Candidates.{capacity}
+use Rattle.pairs.specs.Candidates.{capacityOf}
 use Rattle.solve.specs.Constants.{planeCut, minusOne, two, clipNsigma}
 use Rattle.solve.specs.Vector.{row, entry, dot}
 use Rattle.project.specs.Camera.{east, north}
 use Rattle.fit.specs.Rows.{spotAt}
 use Rattle.fit.specs.declared.Spot.{Spot}
 use Rattle.fit.specs.declared.Pose.{Pose}
-use Rattle.entry.specs.Arguments.{Call, Given, spotCount, directionCount}
+use Rattle.entry.specs.Arguments.{Call, Given}
 
 -- 01: "A spot's distance .. is the rounded sqrt(x × x + y × y)."
 unfoldable pub distance : Spot → Float
@@ -41,18 +41,33 @@ pub record Fixed : Type 0 where
   pub cut : Float
   pub far : Float
 
-unfoldable pub fixed : Call → Fixed
+-- The head of `wcs_refine`: of the directions and of the candidate lists only the lengths count.
+unfoldable pub fixedFrom : List Float → ℕ → Float → Bool → Float → ℕ → ℕ → ℕ → Fixed
 unfolding farthest
-fixed c = record {
-  scale = c .given .scale;
-  mirror = c .given .mirror;
-  radius = c .given .radius;
-  limit = c .given .limit;
-  count = directionCount c;
-  capacity = capacity (c .given .lent .distances) (c .given .lent .indices);
+fixedFrom spots directions scale mirror radius limit distances indices = record {
+  scale = scale;
+  mirror = mirror;
+  radius = radius;
+  limit = limit;
+  count = directions / 3;
+  capacity = capacityOf distances indices;
   cut = planeCut;
-  far = farthest (c .spots) 0 (spotCount c) zero64;
+  far = farthest spots 0 (length spots / 2) zero64;
 }
+
+-- The same of a call.
+unfoldable pub fixed : Call → Fixed
+unfolding fixedFrom
+fixed c =
+    fixedFrom (c .spots) (length (c .directions)) (c .given .scale) (c .given .mirror) (c .given .radius) (c .given .limit)
+    (length (c .given .lent .distances)) (length (c .given .lent .indices))
+
+-- 1.5, how much wider than the field is searched, and 3.0, how many margins beyond the field a direction stays cached
+abbrev pub fieldFactor : Float
+fieldFactor = f64 0x3FF8000000000000
+
+abbrev pub marginsKept : Float
+marginsKept = f64 0x4008000000000000
 
 -- search_radius, requery_margin, requery_cos
 unfoldable pub requeryMargin : Fixed → Float
@@ -60,7 +75,7 @@ requeryMargin k = k .radius ⊗ two
 
 unfoldable pub searchRadius : Fixed → Float
 unfolding maxF
-searchRadius k = maxF (k .scale ⊗ k .far ⊗ f64 0x3FF8000000000000) (k .radius ⊗ two)
+searchRadius k = maxF (k .scale ⊗ k .far ⊗ fieldFactor) (k .radius ⊗ two)
 
 unfoldable pub requeryCos : Fixed → Float
 unfolding requeryMargin cos
@@ -80,21 +95,26 @@ marginPx k = requeryMargin k ⊘ k .scale
 
 unfoldable pub keepR : Fixed → Float
 unfolding pruneR marginPx
-keepR k = pruneR k ⊕ f64 0x4008000000000000 ⊗ marginPx k
+keepR k = pruneR k ⊕ marginsKept ⊗ marginPx k
 
 unfoldable pub thetaMargin : Fixed → Float
 unfolding keepR marginPx
 thetaMargin k = marginPx k ⊘ keepR k
 
--- The start pose, from the first and third rows of the rotation.
-unfoldable pub startPose : Given → Pose
+-- The start pose, from the third row of the rotation, the boresight, and its first, the camera's x axis.
+unfoldable pub startPoseOf : List (List Float) → Float → Pose
 unfolding atan2 asin clampF east north dot
-startPose g =
-    let ra = atan2 (entry (g .rotation) 2 1) (entry (g .rotation) 2 0) in
-    let dec = asin (clampF (entry (g .rotation) 2 2) minusOne one64) in
+startPoseOf rotation scale =
+    let ra = atan2 (entry rotation 2 1) (entry rotation 2 0) in
+    let dec = asin (clampF (entry rotation 2 2) minusOne one64) in
     record {
-      theta = atan2 (dot (row (g .rotation) 0) (north ra dec)) (dot (row (g .rotation) 0) (east ra));
+      theta = atan2 (dot (row rotation 0) (north ra dec)) (dot (row rotation 0) (east ra));
       ra = ra;
       dec = dec;
-      scale = g .scale;
+      scale = scale;
     }
+
+-- The same of a call's arguments.
+unfoldable pub startPose : Given → Pose
+unfolding startPoseOf
+startPose g = startPoseOf (g .rotation) (g .scale)

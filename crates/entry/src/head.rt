@@ -6,9 +6,8 @@ ghost use lib.ListN.{length};
 ghost use Rattle.rounding.specs.Arith.{zero64};
 ghost use Rattle.solve.specs.Vector.{at};
 ghost use Rattle.project.specs.Camera.{east, north};
-ghost use Rattle.entry.specs.Arguments.{Call, Given};
-ghost use Rattle.entry.specs.Fixed.{farthest, fixed, startPose, requeryMargin, searchRadius, requeryCos, radiusPx, pruneR, marginPx, keepR, thetaMargin};
-ghost use Rattle.entry.specs.Entry.{Started, fixedOf};
+ghost use Rattle.entry.specs.Fixed.{farthest, fixedFrom, startPoseOf, requeryMargin, searchRadius, requeryCos, radiusPx, pruneR, marginPx, keepR, thetaMargin};
+ghost use Rattle.entry.specs.Entry.{fixedOf};
 use crate::Settings;
 use angles::asin;
 use angles::atan2;
@@ -38,6 +37,7 @@ pub fn farthest_of(spots: &[f64], n: usize) -> f64
     sqrt64(square)
 }
 
+// What the rounds read beside spots, directions and their state. Of the directions and of the candidate lists only the lengths count.
 pub fn settings_of(
     spots: &[f64],
     directions: usize,
@@ -48,7 +48,8 @@ pub fn settings_of(
     distances: usize,
     indices: usize,
 ) -> Settings
-    ensures { λ r. ⌜ ((c : Call) → Started c (now (spots .entry)) directions scale mirror radius limit distances indices → fixedOf r ≡ fixed c) ⌝ }
+    ensures { λ r.
+        ⌜ fixedOf r ≡ fixedFrom (now (spots .entry)) directions scale mirror radius limit distances indices ⌝ }
 {
     // Those beyond the matching limit count too.
     let far = farthest_of(spots, spots.len() / 2);
@@ -99,7 +100,7 @@ fn widened(v: [f32; 3]) -> [f64; 3]
 
 // From the rotation's third row, the boresight, and its first, the camera's x axis.
 pub fn start_pose(rotation: [[f32; 3]; 3], scale: f64) -> Pose
-    ensures { λ r. ⌜ ((g : Given) → g .rotation ≡ rotation → g .scale ≡ scale → r ≡ startPose g) ⌝ }
+    ensures { λ r. ⌜ r ≡ startPoseOf rotation scale ⌝ }
 {
     let z = widened(rotation[2]);
     let x = widened(rotation[0]);

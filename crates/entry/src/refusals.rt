@@ -1,9 +1,10 @@
-// The checks on entry, refusals 5 to 11, as one function over the lists.
+// The checks on entry, refusals 5 to 11, in stages by what they look at.
 ghost use mathlib.Core.Path.{_≡_};
-ghost use Prim.Native.Nat.{_≤_, max};
-ghost use Rattle.entry.specs.Arguments.{Call};
-ghost use Rattle.entry.specs.Check.{lawfulCoordinate, lawfulComponent, every, rotationFits, named, refusal};
-ghost use Rattle.entry.specs.Entry.{Entered, evenly, fewOf, rowFits, numbersFitOf, longOf};
+ghost use Prim.Native.Nat.{_/_, _≤_, max};
+ghost use lib.ListN.{length};
+ghost use Rattle.entry.specs.Check.{lawfulCoordinate, lawfulComponent, every, divides, few, rotationFits, numbersFit, named, long};
+ghost use Rattle.entry.specs.Check.{countsRefused, measuresRefused, numbersRefused, namesRefused, refusalOf};
+ghost use Rattle.entry.specs.Entry.{rowFits};
 use crate::bounds::Component;
 use crate::bounds::Coordinate;
 use crate::bounds::Directions;
@@ -22,7 +23,7 @@ pub(crate) fn larger(a: usize, b: usize) -> usize
 
 // 5, from the lists' lengths.
 fn divides(spots: usize, matches: usize, directions: usize) -> bool
-    ensures { λ r. ⌜ r ≡ evenly spots matches directions ⌝ }
+    ensures { λ r. ⌜ r ≡ divides spots matches directions ⌝ }
 {
     if spots % 2 == 0 {
         if matches % 2 == 0 {
@@ -34,7 +35,7 @@ fn divides(spots: usize, matches: usize, directions: usize) -> bool
 
 // 6, from the counts.
 fn are_few(spots: usize, matches: usize, directions: usize, rounds: usize) -> bool
-    ensures { λ r. ⌜ r ≡ fewOf spots matches directions rounds ⌝ }
+    ensures { λ r. ⌜ r ≡ few spots matches directions rounds ⌝ }
 {
     if Spots(spots).is_lawful() {
         if Matches(matches).is_lawful() {
@@ -96,7 +97,7 @@ fn rotation_fits(rotation: [[f32; 3]; 3]) -> bool
 
 // 9, every number.
 fn numbers_fit(spots: &[f64], directions: &[f32], rotation: [[f32; 3]; 3]) -> bool
-    ensures { λ r. ⌜ r ≡ numbersFitOf (now (spots .entry)) (now (directions .entry)) rotation ⌝ }
+    ensures { λ r. ⌜ r ≡ numbersFit (now (spots .entry)) (now (directions .entry)) rotation ⌝ }
 {
     if coordinates_fit(spots) {
         if components_fit(directions) {
@@ -134,7 +135,7 @@ fn are_long(
     result: usize,
 ) -> bool
     requires { ⌜ (spots ≤ 4096) × (matches ≤ 4096) × (directions ≤ 65536) ⌝ }
-    ensures { λ r. ⌜ r ≡ longOf spots matches directions limit numbers floats result ⌝ }
+    ensures { λ r. ⌜ r ≡ long spots matches directions limit numbers floats result ⌝ }
 {
     let work = 16 * (spots + matches + directions);
     if numbers < work {
@@ -145,6 +146,72 @@ fn are_long(
     }
     let most = larger(matches, smaller(spots, limit));
     2 * most <= result
+}
+
+// 5 and 6, from the lists' lengths.
+fn counts(spots: usize, matches: usize, directions: usize, rounds: usize) -> usize
+    ensures { λ r. ⌜ r ≡ countsRefused spots matches directions rounds ⌝ }
+{
+    if !divides(spots, matches, directions) {
+        return 5;
+    }
+    if are_few(spots / 2, matches / 2, directions / 3, rounds) {
+        return 0;
+    }
+    6
+}
+
+// 7 and 8.
+fn measures(scale: f64, radius: f32) -> usize
+    ensures { λ r. ⌜ r ≡ measuresRefused scale radius ⌝ }
+{
+    if !Scale(scale).is_lawful() {
+        return 7;
+    }
+    if Radius(radius).is_lawful() {
+        return 0;
+    }
+    8
+}
+
+// 9.
+fn numerals(spots: &[f64], directions: &[f32], rotation: [[f32; 3]; 3]) -> usize
+    ensures { λ r. ⌜ r ≡ numbersRefused (now (spots .entry)) (now (directions .entry)) rotation ⌝ }
+{
+    if numbers_fit(spots, directions, rotation) {
+        return 0;
+    }
+    9
+}
+
+// 10 and 11, from the counts, which are few.
+fn names(
+    matches: &[usize],
+    spots: usize,
+    directions: usize,
+    limit: usize,
+    numbers: usize,
+    floats: usize,
+    result: usize,
+) -> usize
+    requires { ⌜ (spots ≤ 4096) × (length (now matches) / 2 ≤ 4096) × (directions ≤ 65536) ⌝ }
+    ensures { λ r. ⌜ r ≡ namesRefused (now (matches .entry)) spots directions limit numbers floats result ⌝ }
+{
+    if !are_named(matches, spots, directions) {
+        return 10;
+    }
+    if are_long(
+        spots,
+        matches.len() / 2,
+        directions,
+        limit,
+        numbers,
+        floats,
+        result,
+    ) {
+        return 0;
+    }
+    11
 }
 
 // The number of the first check that fails, or 0. Of the lists of numbers, floats and results only the lengths count.
@@ -161,31 +228,30 @@ pub fn refusal_of(
     floats: usize,
     result: usize,
 ) -> usize
-    ensures { λ r. ⌜ ((c : Call) → Entered c (now (spots .entry)) (now (matches .entry)) (now (directions .entry)) rotation scale radius limit rounds numbers floats result → r ≡ refusal c) ⌝ }
+    ensures { λ r.
+        ⌜ r
+        ≡ refusalOf (now (spots .entry)) (now (matches .entry)) (now (directions .entry)) rotation scale radius limit
+        rounds numbers floats result ⌝ }
 {
-    let s = spots.len() / 2;
-    let m = matches.len() / 2;
-    let d = directions.len() / 3;
-    if !divides(spots.len(), matches.len(), directions.len()) {
-        return 5;
+    let by_counts = counts(spots.len(), matches.len(), directions.len(), rounds);
+    if by_counts != 0 {
+        return by_counts;
     }
-    if !are_few(s, m, d, rounds) {
-        return 6;
+    let by_measures = measures(scale, radius);
+    if by_measures != 0 {
+        return by_measures;
     }
-    if !Scale(scale).is_lawful() {
-        return 7;
+    let by_numbers = numerals(spots, directions, rotation);
+    if by_numbers != 0 {
+        return by_numbers;
     }
-    if !Radius(radius).is_lawful() {
-        return 8;
-    }
-    if !numbers_fit(spots, directions, rotation) {
-        return 9;
-    }
-    if !are_named(matches, s, d) {
-        return 10;
-    }
-    if are_long(s, m, d, limit, numbers, floats, result) {
-        return 0;
-    }
-    11
+    names(
+        matches,
+        spots.len() / 2,
+        directions.len() / 3,
+        limit,
+        numbers,
+        floats,
+        result,
+    )
 }

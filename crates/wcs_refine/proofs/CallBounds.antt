@@ -1,35 +1,51 @@
 -- What a call that passes the checks keeps to. Assumes nothing.
-use mathlib.Core.Path.{_≡_, refl}
-use mathlib.Core.Bool.{Bool, true, false, cond, _&&_}
-use Prim.Native.Nat.{ℕ, _%_, _≤_, _<_}
+use mathlib.Core.Path.{_≡_}
+use mathlib.Core.Bool.{true, _&&_}
+use Prim.Native.Nat.{ℕ, _%_, _≤_}
 use native.Mathlib.Omega.{arith}
 use borrow.Author.Tests.{leb-true, eqb-true}
 use lib.Dec.{leb, eqb}
 use lib.ListN.{length}
 use Rattle.entry.specs.Arguments.{Call, spotCount, matchCount, directionCount, workPlaces, resultPlaces}
-use Rattle.entry.specs.Check.{divides, few, scaleFits, radiusFits, numbersFit, named, long, refusal}
-use Rattle.wcs_refine.proofs.Along.{either}
+use Rattle.entry.specs.Check.{divides, few, numbersFit, named, long, countsRefused, measuresRefused, numbersRefused, namesRefused, orElse, refusalOf, refusal}
+use Rattle.entry.proofs.Stages.{both-pass, check-passed, counts-passed, and-left, and-right, few-bounds}
 
-and-left : (a b : Bool) → a && b ≡ true → a ≡ true
-and-left true b h = refl
-and-left false b h = h
+-- ---- the checks that it passes
 
-and-right : (a b : Bool) → a && b ≡ true → b ≡ true
-and-right true b h = h
-and-right false b h = cc
+pub record Checked (c : Call) : Type 0 where
+  pub even : divides (length (c .spots)) (length (c .given .matches)) (length (c .directions)) ≡ true
+  pub counts : few (spotCount c) (matchCount c) (directionCount c) (c .given .rounds) ≡ true
+  pub numbers : numbersFit (c .spots) (c .directions) (c .given .rotation) ≡ true
+  pub room : long (spotCount c) (matchCount c) (directionCount c) (c .given .limit)
+      (length (c .given .lent .numbers)) (length (c .given .lent .floats)) (length (c .given .lent .result)) ≡ true
 
--- one check after another
-holds : (a : Bool) (x n : ℕ) → 0 < n → cond a x n ≡ 0 → a ≡ true
-holds true x n p h = refl
-holds false x n p h =
-    let z : ⊥ = omega arith in
-    absurd z
+pub checked : (c : Call) → refusal c ≡ 0 → Checked c
+unfolding refusal refusalOf numbersRefused namesRefused
+checked c h =
+    let l = c .given .lent in
+    let names = namesRefused (c .given .matches) (spotCount c) (directionCount c) (c .given .limit) (length (l .numbers)) (length (l .floats)) (length (l .result)) in
+    let numbers = numbersRefused (c .spots) (c .directions) (c .given .rotation) in
+    let measures = measuresRefused (c .given .scale) (c .given .radius) in
+    let p = both-pass (countsRefused (length (c .spots)) (length (c .given .matches)) (length (c .directions)) (c .given .rounds)) (orElse measures (orElse numbers names)) h in
+    let q = both-pass numbers names (both-pass measures (orElse numbers names) (p .1) .1) in
+    let counts = counts-passed (length (c .spots)) (length (c .given .matches)) (length (c .directions)) (c .given .rounds) (p .0) in
+    record {
+      even = counts .0;
+      counts = counts .1;
+      numbers = check-passed _ 0 9 (omega arith) (q .0) .0;
+      room = check-passed _ 0 11 (omega arith) (check-passed (named (spotCount c) (directionCount c) (c .given .matches)) _ 10 (omega arith) (q .1) .1) .0;
+    }
 
-next : (a : Bool) (x n : ℕ) → 0 < n → cond a x n ≡ 0 → x ≡ 0
-next true x n p h = h
-next false x n p h =
-    let z : ⊥ = omega arith in
-    absurd z
+-- ---- as facts about its lengths
+
+pub divided : (s m d : ℕ) → divides s m d ≡ true → (s % 2 ≡ 0) × (m % 2 ≡ 0) × (d % 3 ≡ 0)
+unfolding divides
+divided s m d h =
+    let x = eqb (s % 2) 0 in
+    let y = eqb (m % 2) 0 in
+    let z = eqb (d % 3) 0 in
+    let xy = and-left (x && y) z h in
+    (eqb-true (s % 2) 0 (and-left x y xy), eqb-true (m % 2) 0 (and-right x y xy), eqb-true (d % 3) 0 (and-right (x && y) z h))
 
 pub record Bounded (c : Call) : Type 0 where
   pub even : length (c .given .matches) % 2 ≡ 0
@@ -42,71 +58,25 @@ pub record Bounded (c : Call) : Type 0 where
   pub result : resultPlaces c ≤ length (c .given .lent .result)
 
 module _ (c : Call) where
-  evens : divides c ≡ true → length (c .given .matches) % 2 ≡ 0
-  unfolding divides
-  evens h =
-      let a = eqb (length (c .spots) % 2) 0 in
-      let b = eqb (length (c .given .matches) % 2) 0 in
-      eqb-true (length (c .given .matches) % 2) 0 (and-right a b (and-left (a && b) (eqb (length (c .directions) % 3) 0) h))
-
-  fews : few c ≡ true → (spotCount c ≤ 4096) × (matchCount c ≤ 4096) × (directionCount c ≤ 65536) × (c .given .rounds ≤ 64)
-  unfolding few
-  fews h =
-      let s = leb (spotCount c) 4096 in
-      let m = leb (matchCount c) 4096 in
-      let d = leb (directionCount c) 65536 in
-      let smd = and-left (s && m && d) (leb (c .given .rounds) 64) h in
-      let sm = and-left (s && m) d smd in (
-        leb-true (spotCount c) 4096 (and-left s m sm),
-        leb-true (matchCount c) 4096 (and-right s m sm),
-        leb-true (directionCount c) 65536 (and-right (s && m) d smd),
-        leb-true (c .given .rounds) 64 (and-right (s && m && d) (leb (c .given .rounds) 64) h),
-      )
-
-  longs : long c ≡ true → (workPlaces c ≤ length (c .given .lent .numbers)) × (workPlaces c ≤ length (c .given .lent .floats)) × (resultPlaces c ≤ length (c .given .lent .result))
+  longs : Checked c → (workPlaces c ≤ length (c .given .lent .numbers)) × (workPlaces c ≤ length (c .given .lent .floats)) × (resultPlaces c ≤ length (c .given .lent .result))
   unfolding long
-  longs h =
+  longs k =
       let n = leb (workPlaces c) (length (c .given .lent .numbers)) in
       let f = leb (workPlaces c) (length (c .given .lent .floats)) in
       let r = leb (resultPlaces c) (length (c .given .lent .result)) in
-      let nf = and-left (n && f) r h in (
+      let nf = and-left (n && f) r (k .room) in (
         leb-true (workPlaces c) (length (c .given .lent .numbers)) (and-left n f nf),
         leb-true (workPlaces c) (length (c .given .lent .floats)) (and-right n f nf),
-        leb-true (resultPlaces c) (length (c .given .lent .result)) (and-right (n && f) r h),
+        leb-true (resultPlaces c) (length (c .given .lent .result)) (and-right (n && f) r (k .room)),
       )
 
-  -- the checks from each on
-  abbrev from11 : ℕ
-  from11 = cond (long c) 0 11
-
-  abbrev from10 : ℕ
-  from10 = cond (named (spotCount c) (directionCount c) (c .given .matches)) from11 10
-
-  abbrev from9 : ℕ
-  from9 = cond (numbersFit c) from10 9
-
-  abbrev from8 : ℕ
-  from8 = cond (radiusFits c) from9 8
-
-  abbrev from7 : ℕ
-  from7 = cond (scaleFits c) from8 7
-
-  abbrev from6 : ℕ
-  from6 = cond (few c) from7 6
-
   pub passed : refusal c ≡ 0 → Bounded c
-  unfolding refusal
   passed h =
-      let h6 : from6 ≡ 0 = next (divides c) from6 5 (omega arith) h in
-      let h7 : from7 ≡ 0 = next (few c) from7 6 (omega arith) h6 in
-      let h8 : from8 ≡ 0 = next (scaleFits c) from8 7 (omega arith) h7 in
-      let h9 : from9 ≡ 0 = next (radiusFits c) from9 8 (omega arith) h8 in
-      let h10 : from10 ≡ 0 = next (numbersFit c) from10 9 (omega arith) h9 in
-      let h11 : from11 ≡ 0 = next (named (spotCount c) (directionCount c) (c .given .matches)) from11 10 (omega arith) h10 in
-      let f = fews (holds (few c) from7 6 (omega arith) h6) in
-      let l = longs (holds (long c) 0 11 (omega arith) h11) in
+      let k = checked c h in
+      let f = few-bounds (spotCount c) (matchCount c) (directionCount c) (c .given .rounds) (k .counts) in
+      let l = longs k in
       record {
-        even = evens (holds (divides c) from6 5 (omega arith) h);
+        even = divided (length (c .spots)) (length (c .given .matches)) (length (c .directions)) (k .even) .1;
         spots = f .0;
         matches = f .1;
         directions = f .2;
@@ -115,17 +85,3 @@ module _ (c : Call) where
         floats = l .1;
         result = l .2;
       }
-
-  abbrev Early : ℕ → Type 0
-  Early n = n ≤ 11
-
-  pub early : refusal c ≤ 11
-  unfolding refusal
-  early =
-      either Early (divides c) from6 5
-      (either Early (few c) from7 6
-      (either Early (scaleFits c) from8 7
-      (either Early (radiusFits c) from9 8
-      (either Early (numbersFit c) from10 9
-      (either Early (named (spotCount c) (directionCount c) (c .given .matches)) from11 10
-      (either Early (long c) 0 11 (omega arith) (omega arith)) (omega arith)) (omega arith)) (omega arith)) (omega arith)) (omega arith)) (omega arith)

@@ -4,7 +4,6 @@ use mathlib.Core.Bool.{Bool, true, false, cond}
 use mathlib.Core.List.{List}
 use Prim.Native.Nat.{ℕ, zero, suc, _*_, _/_, _%_, _≤_, min}
 use native.Mathlib.Omega.{arith}
-use borrow.Author.Tests.{le-leb, lt-leb}
 use lib.ListN.{length, take, drop, replicate}
 use lib.Seq.{take-at, length-take-le}
 use lib.Ieee.{Float}
@@ -32,20 +31,20 @@ use Rattle.wcs_refine.specs.declared.reporting.Numbers.{Numbers}
 use Rattle.query.specs.declared.Held.{Held}
 use Rattle.wcs_refine.specs.declared.rounds.Ran.{Ran}
 use Rattle.wcs_refine.proofs.LoopEnds.{Ends, loop-ends}
-use Rattle.wcs_refine.proofs.CallBounds.{passed, early}
+use Rattle.wcs_refine.proofs.CallBounds.{passed}
 
 -- ---- the start
 
 abbrev state : Pose → List ℕ → Cache → State
 state p ms c = record { pose = p; matches = ms; cache = c }
 
-pub begin-state : (ms l after : List ℕ) (p : Pose) → after ≡ fronted ms l → length ms % 2 ≡ 0 → (g : Given) → p ≡ startPose g → g .matches ≡ ms → (b : List Float) (t : Float) (x : List ℕ)
-    → state p (take (2 * (length ms / 2)) after) (cacheOf false b t x) ≡ start g
-unfolding start cacheOf
-begin-state ms l after p e even g f m b t x =
+pub begin-state : (ms l after : List ℕ) (p q : Pose) → after ≡ fronted ms l → length ms % 2 ≡ 0 → p ≡ q → (b : List Float) (t : Float) (x : List ℕ)
+    → state p (take (2 * (length ms / 2)) after) (cacheOf false b t x) ≡ state q ms empty
+unfolding cacheOf
+begin-state ms l after p q e even f b t x =
     let n : length ms ≡ 2 * (length ms / 2) = omega arith in
     ap (λ (y : Pose). state y (take (2 * (length ms / 2)) after) empty) f
-    ∙ ap (λ (y : List ℕ). state (startPose g) y empty) (ap (take (2 * (length ms / 2))) e ∙ take-at ms (drop (length ms) l) (2 * (length ms / 2)) n ∙ sym m)
+    ∙ ap (λ (y : List ℕ). state q y empty) (ap (take (2 * (length ms / 2))) e ∙ take-at ms (drop (length ms) l) (2 * (length ms / 2)) n)
 
 -- ---- the closing
 
@@ -208,38 +207,20 @@ module _ (c : Call) (lawful : refusal c ≡ 0) where
 
 -- ---- the lists
 
--- A refusal by the run comes late.
-abbrev Late : Answer → Type 0
-Late (no n) = 12 ≤ n
-Late (ok r rounds passes queries) = Unit {0}
-
-closed-late : (c : Call) (x : Closed) (u : Run) → Late (closed c x u)
-unfolding closed
-closed-late c unsound u = omega arith
-closed-late c (fine p ms) u = tt
-
-module _ (c : Call) (lawful : refusal c ≡ 0) where
-  finished-late : (e : Ending) (u : Run) → Ends (fixed c) (c .spots) (c .directions) (resultPlaces c) (room c lawful) e → Late (finished c e u)
-  unfolding finished
-  finished-late (refused n) u h = h
-  finished-late (ended s) u h = closed-late c (cleaned (fixed c) (c .spots) (c .directions) 3 (s .pose) (s .matches)) u
-
-  answer-late : Late (answer c)
-  answer-late = subst Late (answer-is c lawful) (finished-late (runOf c .ending) (runOf c) (run-ends c lawful))
-
-left-late : (l : Lent) (a : Answer) → Late a → cleared (resultAfter (l .result) a) l ≡ left l a
+left-late : (l : Lent) (a : Answer) → cleared (resultAfter (l .result) a) l ≡ left l 0 a
 unfolding left resultAfter
-left-late l (no n) h = sym (ap (λ (b : Bool). cond b l (cleared (l .result) l)) (lt-leb n 11 (omega arith)))
-left-late l (ok r rounds passes queries) h = refl
+left-late l (no n) = refl
+left-late l (ok r rounds passes queries) = refl
 
-left-early : (l : Lent) (n : ℕ) → n ≤ 11 → left l (no n) ≡ l
+left-early : (l : Lent) (n : ℕ) (a : Answer) → (n ≡ 0 → ⊥) → l ≡ left l n a
 unfolding left
-left-early l n h = ap (λ (b : Bool). cond b l (cleared (l .result) l)) (le-leb n 11 h)
+left-early l zero a f = absurd (f refl)
+left-early l (suc n) a f = refl
 
 abbrev both : WcsRefineResult → Lent → Returned
 both r l = record { result = r; lent = l }
 
-both-is : (c : Call) → both (valuesOf (answer c)) (left (c .given .lent) (answer c)) ≡ returned (outcome c)
+both-is : (c : Call) → both (valuesOf (answer c)) (left (c .given .lent) (refusal c) (answer c)) ≡ returned (outcome c)
 unfolding returned outcome
 both-is c = refl
 
@@ -255,10 +236,10 @@ pub run-returns : (c : Call) → refusal c ≡ 0 → {out : List ℕ} {v : WcsRe
     → Answers c v (lists ns fs ds is out)
 run-returns c lawful {out} {v} w a b d e i j m n {ns} {fs} {ds} {is} p q s t =
     let l = c .given .lent in
-    let lent : lists ns fs ds is out ≡ left l (answer c) =
+    let lent : lists ns fs ds is out ≡ left l (refusal c) (answer c) =
     ap (λ (x : List ℕ). lists x fs ds is out) p ∙ ap (λ (x : List Float). lists (replicate a 0) x ds is out) q ∙ ap (λ (x : List Float). lists (replicate a 0) (replicate b zero64) x is out) s
     ∙ ap (λ (x : List ℕ). lists (replicate a 0) (replicate b zero64) (replicate d zero64) x out) t ∙ cleared-is out l a b d e i j m n
-    ∙ ap (λ (x : List ℕ). cleared x l) (w .list) ∙ left-late l (answer c) (answer-late c lawful) in
+    ∙ ap (λ (x : List ℕ). cleared x l) (w .list) ∙ left-late l (answer c) ∙ ap (λ (n : ℕ). left l n (answer c)) (sym lawful) in
     ap (λ (x : WcsRefineResult). both x (lists ns fs ds is out)) (w .values) ∙ ap (both (valuesOf (answer c))) lent ∙ both-is c
 
 answer-early : (c : Call) (n : ℕ) → refusal c ≡ n → (n ≡ 0 → ⊥) → answer c ≡ no n
@@ -272,5 +253,5 @@ unfolding valuesOf
 check-returns c n e f {v} w =
     let l = c .given .lent in
     let is : no n ≡ answer c = sym (answer-early c n (sym e) f) in
-    let soon : n ≤ 11 = omega (arith, early c) in
-    ap (λ (x : WcsRefineResult). both x l) w ∙ ap (both (refusedWith n)) (sym (left-early l n soon)) ∙ ap (λ (x : Answer). both (valuesOf x) (left l x)) is ∙ both-is c
+    let lent : l ≡ left l (refusal c) (answer c) = left-early l n (answer c) f ∙ ap (λ (x : ℕ). left l x (answer c)) e in
+    ap (λ (x : WcsRefineResult). both x l) w ∙ ap (λ (x : Answer). both (valuesOf x) l) is ∙ ap (both (valuesOf (answer c))) lent ∙ both-is c

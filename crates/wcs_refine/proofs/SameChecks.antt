@@ -1,18 +1,20 @@
 -- Two calls that are alike in all but unseen spots and directions meet the same refusal of 5 to 11, or none; and what no refusal says of a call. Assumes nothing.
 use mathlib.Core.Path.{_≡_, refl, sym, ap, _∙_, subst}
-use Prim.Native.Nat.{ℕ, zero, suc, _+_, _*_, _/_, _%_, _<_, min, max}
+use Prim.Native.Nat.{ℕ, zero, suc, _+_, _*_, _/_, _%_, _<_}
 use native.Mathlib.Omega.{arith}
 use mathlib.Core.Bool.{Bool, true, false, cond, _&&_}
 use mathlib.Core.List.{List, [], _∷_}
-use lib.Dec.{T, leb, eqb, eqb→eq, lit<}
+use lib.Dec.{T, lit<}
 use lib.ListN.{length, getD}
 use lib.Ieee.{Float, nan}
 use lib.Ieee.Fits.{and-l, and-r}
 use Rattle.fit.specs.Rows.{spotAt, directionAt}
 use Rattle.fit.specs.declared.Spot.{Spot}
 use Rattle.entry.specs.Arguments.{Call, Given, spotCount, directionCount}
-use Rattle.entry.specs.Check.{mostSpots, mostMatches, mostDirections, mostRounds, lawfulCoordinate, lawfulComponent, every, divides, few, scaleFits, radiusFits, rotationFits, numbersFit, named, long, refusal}
+use Rattle.entry.specs.Check.{lawfulCoordinate, lawfulComponent, every, rotationFits, numbersFit, countsRefused, measuresRefused, numbersRefused, namesRefused, orElse, refusalOf, refusal}
+use Rattle.entry.proofs.Stages.{and-left, counts-passed}
 use Rattle.wcs_refine.specs.Unseen.{LawfulSpot, OnlyUnseen}
+use Rattle.wcs_refine.proofs.CallBounds.{checked, divided}
 use Rattle.wcs_refine.proofs.Unchanged.{spot-dec, direction-dec}
 
 -- ---- along a list
@@ -33,39 +35,30 @@ both : (x y : Bool) → T x → T y → x ≡ y
 both true true t u = refl
 
 -- ---- what no refusal says
-passed : (x : Bool) (n m : ℕ) → 0 < n → cond x m n ≡ 0 → T x × (m ≡ 0)
-passed true n m l h = (tt, h)
-passed false n m l h = absurd (omega arith)
-
-whole : (c : Call) → T (divides c) → (length (c .spots) % 2 ≡ 0) × (length (c .directions) % 3 ≡ 0)
-unfolding divides
-whole c t =
-    let s = eqb (length (c .spots) % 2) 0 in
-    let m = eqb (length (c .given .matches) % 2) 0 in
-    let d = eqb (length (c .directions) % 3) 0 in
-    (eqb→eq (length (c .spots) % 2) 0 (and-l s m (and-l (s && m) d t)), eqb→eq (length (c .directions) % 3) 0 (and-r (s && m) d t))
-
 pub record Accepted (c : Call) : Type 0 where
   pub spots : length (c .spots) % 2 ≡ 0
   pub directions : length (c .directions) % 3 ≡ 0
   pub lawful : (i : ℕ) → i < spotCount c → LawfulSpot (spotAt (c .spots) i)
 
 pub accepted : (c : Call) → refusal c ≡ 0 → Accepted c
-unfolding refusal numbersFit spotAt
+unfolding numbersFit spotAt
 accepted c h =
-    let p = passed (divides c) 5 _ (lit< tt) h in
-    let q = passed (few c) 6 _ (lit< tt) (p .1) in
-    let r = passed (scaleFits c) 7 _ (lit< tt) (q .1) in
-    let s = passed (radiusFits c) 8 _ (lit< tt) (r .1) in
-    let n = passed (numbersFit c) 9 _ (lit< tt) (s .1) in
+    let k = checked c h in
+    let w = divided (length (c .spots)) (length (c .given .matches)) (length (c .directions)) (k .even) in
     let e = every lawfulCoordinate (c .spots) in
     let d = every lawfulComponent (c .directions) in
-    let t = and-l e d (and-l (e && d) (rotationFits (c .given .rotation)) (n .0)) in
+    let t = subst T (sym (and-left e d (and-left (e && d) (rotationFits (c .given .rotation)) (k .numbers)))) tt in
     record {
-      spots = whole c (p .0) .0;
-      directions = whole c (p .0) .1;
+      spots = w .0;
+      directions = w .2;
       lawful = λ i l. (every-at lawfulCoordinate (c .spots) t (2 * i) (omega arith), every-at lawfulCoordinate (c .spots) t (2 * i + 1) (omega arith));
     }
+
+-- what comes after a stage that passes
+or-same : (n x y : ℕ) → (n ≡ 0 → x ≡ y) → orElse n x ≡ orElse n y
+unfolding orElse
+or-same zero x y h = h refl
+or-same (suc n) x y h = refl
 
 -- ---- two calls with the same other arguments
 abbrev pub made : List Float → List Float → Given → Call
@@ -121,37 +114,27 @@ module _ (g : Given) (sa sb da db : List Float) (ls : length sa ≡ length sb) (
       go (suc zero) e p = let s : 3 * (i / 3) + 1 ≡ i = omega arith in subst (Agree lawfulComponent da db) s (p .1)
       go (suc (suc r)) e p = let s : 3 * (i / 3) + 2 ≡ i = omega arith in subst (Agree lawfulComponent da db) s (p .2)
 
-  numbers-same : T (divides a) → numbersFit a ≡ numbersFit b
-  unfolding numbersFit
-  numbers-same t =
-      let w = whole a t in
+  -- the counts are of the lengths
+  abbrev counts : ℕ → ℕ → ℕ
+  counts s d = countsRefused s (length (g .matches)) d (g .rounds)
+
+  numbers-same : counts (length sa) (length da) ≡ 0 → numbersRefused sa da (g .rotation) ≡ numbersRefused sb db (g .rotation)
+  unfolding numbersRefused numbersFit
+  numbers-same z =
+      let w = divided (length sa) (length (g .matches)) (length da) (counts-passed (length sa) (length (g .matches)) (length da) (g .rounds) z .0) in
       let s = every-same lawfulCoordinate sa sb ls (coordinate-lawful (w .0)) in
-      let d = every-same lawfulComponent da db ld (component-lawful (w .1)) in
-      λ i. s i && d i && rotationFits (g .rotation)
+      let d = every-same lawfulComponent da db ld (component-lawful (w .2)) in
+      λ i. cond (s i && d i && rotationFits (g .rotation)) 0 9
 
-  divides-same : divides a ≡ divides b
-  unfolding divides
-  divides-same = λ i. eqb (ls i % 2) 0 && eqb (length (g .matches) % 2) 0 && eqb (ld i % 3) 0
+  -- after the counts, the lawfulness of the numbers and again the lengths decide
+  abbrev later : ℕ → ℕ → ℕ → ℕ
+  later numbers s d =
+      orElse (measuresRefused (g .scale) (g .radius))
+      (orElse numbers (namesRefused (g .matches) (s / 2) (d / 3) (g .limit) (length (g .lent .numbers)) (length (g .lent .floats)) (length (g .lent .result))))
 
-  -- after the first check the lengths and the lawfulness of the numbers decide
   pub refusal-same : refusal a ≡ refusal b
-  unfolding refusal few scaleFits radiusFits long
-  refusal-same = go (divides a) refl ∙ ap (λ (x : Bool). later b x) divides-same
-    where
-      later : Call → Bool → ℕ
-      later c x =
-          cond x (cond (few c) (cond (scaleFits c) (cond (radiusFits c) (cond (numbersFit c)
-          (cond (named (spotCount c) (directionCount c) (c .given .matches)) (cond (long c) 0 11) 10) 9) 8) 7) 6) 5
-
-      go : (x : Bool) → divides a ≡ x → later a x ≡ later b x
-      go false e = refl
-      go true e = λ i.
-          let m = length (g .matches) / 2 in
-          cond (leb (ls i / 2) mostSpots && leb m mostMatches && leb (ld i / 3) mostDirections && leb (g .rounds) mostRounds)
-          (cond (scaleFits a) (cond (radiusFits a) (cond (numbers-same (subst T (sym e) tt) i)
-          (cond (named (ls i / 2) (ld i / 3) (g .matches))
-          (cond
-          (leb (16 * (ls i / 2 + m + ld i / 3)) (length (g .lent .numbers))
-          && leb (16 * (ls i / 2 + m + ld i / 3)) (length (g .lent .floats))
-          && leb (2 * max m (min (ls i / 2) (g .limit))) (length (g .lent .result)))
-          0 11) 10) 9) 8) 7) 6
+  unfolding refusal refusalOf
+  refusal-same =
+      or-same (counts (length sa) (length da)) (later (numbersRefused sa da (g .rotation)) (length sa) (length da)) (later (numbersRefused sb db (g .rotation)) (length sb) (length db))
+      (λ z i. later (numbers-same z i) (ls i) (ld i))
+      ∙ (λ i. orElse (counts (ls i) (ld i)) (later (numbersRefused sb db (g .rotation)) (length sb) (length db)))

@@ -12,7 +12,7 @@ use Rattle.pairs.specs.Pairs.{spotsWithin}
 use Rattle.fit.specs.Rows.{spotAt, directionAt}
 use Rattle.entry.specs.Arguments.{Call, Given, spotCount, directionCount}
 use Rattle.entry.specs.Check.{refusal}
-use Rattle.entry.specs.Fixed.{Fixed, fixed, distance, farthest}
+use Rattle.entry.specs.Fixed.{Fixed, fixedFrom, fixed, distance, farthest}
 use Rattle.wcs_refine.specs.Associate.{Link, links}
 use Rattle.wcs_refine.specs.Round.{Ending, refused, ended, Run, loop}
 use Rattle.wcs_refine.specs.Closing.{Closed, unsound, fine, cleaned, reported}
@@ -89,7 +89,7 @@ module _ (g : Given) (sa sb da db : List Float) (ls : length sa ≡ length sb) (
     far-same = farthest-same sa sb (spotCount a) plain-a plain-b reached-a reached-b ∙ ap (λ (n : ℕ). farthest sb 0 (n / 2) zero64) ls
 
     fixed-same : fixed a ≡ fixed b
-    unfolding fixed
+    unfolding fixed fixedFrom
     fixed-same = λ i. record {
       scale = g .scale;
       mirror = g .mirror;
@@ -154,7 +154,7 @@ module _ (g : Given) (sa sb da db : List Float) (ls : length sa ≡ length sb) (
 
   outcome-same : outcome a ≡ outcome b
   unfolding outcome
-  outcome-same = λ i. record { answer = answer-same i; lent = left (g .lent) (answer-same i) }
+  outcome-same = λ i. record { answer = answer-same i; lent = left (g .lent) (refusal-same g sa sb da db ls ld un i) (answer-same i) }
 
 pub unseen-changes-nothing : UnseenChangesNothing
 unseen-changes-nothing a b al un =

@@ -1,8 +1,6 @@
 -- The whole of a refinement call: checks, run, closing, and what every lent list holds afterwards. Definitions only. Assumes nothing.
 use Prim.Native.Nat.{ℕ, zero, suc}
-use mathlib.Core.Bool.{cond}
 use mathlib.Core.List.{List, [], _++_}
-use lib.Dec.{leb}
 use lib.ListN.{length, drop, replicate}
 use lib.Ieee.{Float}
 use Rattle.rounding.specs.Arith.{zero64}
@@ -66,17 +64,19 @@ cleared result l = record {
   result = result;
 }
 
--- "1 to 11 leave all lent lists as they came. 12 and 13 leave the result list as it came and the working and candidate lists all zero."
+-- By the check that refused on entry, or 0 where none did: "1 to 11 leave all lent lists as they came. 12 and 13 leave the result list as it came
+-- and the working and candidate lists all zero."
 -- "Accepted: the result list starts with the matches, spot then direction, and is unchanged after them; working and candidate lists are all zero."
-unfoldable pub left : Lent → Answer → Lent
+unfoldable pub left : Lent → ℕ → Answer → Lent
 unfolding cleared
-left l (no n) = cond (leb n 11) l (cleared (l .result) l)
-left l (ok r rounds passes queries) = cleared (r .matches ++ drop (length (r .matches)) (l .result)) l
+left l (suc n) a = l
+left l zero (no n) = cleared (l .result) l
+left l zero (ok r rounds passes queries) = cleared (r .matches ++ drop (length (r .matches)) (l .result)) l
 
 pub record Outcome : Type 0 where
   pub answer : Answer
   pub lent : Lent
 
 unfoldable pub outcome : Call → Outcome
-unfolding answer left
-outcome c = record { answer = answer c; lent = left (c .given .lent) (answer c) }
+unfolding answer left refusal
+outcome c = record { answer = answer c; lent = left (c .given .lent) (refusal c) (answer c) }

@@ -5,10 +5,10 @@ use mathlib.Core.List.{List, _++_}
 use lib.ListN.{length, drop}
 use lib.Ieee.{Float}
 use Rattle.fit.specs.Rows.{rows}
-use Rattle.entry.specs.Arguments.{Given}
-use Rattle.entry.specs.Fixed.{Fixed}
+use Rattle.entry.specs.Fixed.{Fixed, startPoseOf}
+use Rattle.query.specs.Query.{empty}
 use Rattle.wcs_refine.specs.Closing.{Closed, unsound, fine, reported}
-use Rattle.wcs_refine.specs.Call.{Answer, no, ok, start}
+use Rattle.wcs_refine.specs.Call.{Answer, no, ok}
 use Rattle.wcs_refine.specs.Keeping.{heldState}
 use Rattle.wcs_refine.specs.Returned.{valuesOf}
 use Rattle.wcs_refine.specs.declared.WcsRefineResult.{WcsRefineResult}
@@ -16,7 +16,7 @@ use Rattle.query.specs.declared.Held.{Held}
 
 -- The state that the run starts from: the starting matches at the front of the working list, and no cached query.
 pub record Begun (matches : List ℕ) (rotation : List (List Float)) (scale : Float) (after : List ℕ) (h : Held) : Type 0 where
-  pub state : (g : Given) → g .rotation ≡ rotation → g .scale ≡ scale → g .matches ≡ matches → (n : ℕ) → heldState n h after ≡ start g
+  pub state : (n : ℕ) → heldState n h after ≡ record { pose = startPoseOf rotation scale; matches = matches; cache = empty }
   pub used : h .used ≡ length matches / 2
   pub cached : h .cached ≡ 0
 

@@ -2,8 +2,9 @@
 use mathlib.Core.Path.{_≡_, refl}
 use native.Mathlib.Omega.{arith}
 use Rattle.entry.specs.Arguments.{total}
-use Rattle.entry.specs.Fixed.{fixed}
+use Rattle.entry.specs.Fixed.{fixed, startPose}
 use Rattle.entry.specs.Entry.{fixedOf}
+use Rattle.wcs_refine.specs.Call.{start}
 use Rattle.wcs_refine.specs.Returned.{lists, called}
 use Rattle.wcs_refine.proofs.CallEnds.{begin-fits, run-fits, refused-answer, ended-fits, ended-answer}
 use borrow.Author.Needs.{needs}
@@ -27,12 +28,13 @@ begin-requires c κs =
     begin-fits q lawful
 
 run-requires : tie.Need-run-requires
+unfolding fixed
 run-requires c κs =
     let a = c .before .before .before .before .before .before .before .before .before .before .before .before .before .before .before .before .before .args in
     let q = called (a .spots .now) (a .matches .now) (a .directions .now) (a .rotation) (a .scale) (a .mirror) (a .radius) (a .limit) (a .rounds) (lists (a .numbers .now) (a .floats .now) (a .distances .now) (a .indices .now) (a .result .now)) in
     let lawful = c .before .before .before .before .before .before .before .before .before .before .before .before .before .before .before .before .before .pre in
     let k = c .before .before .before .before .before .before .before .before .settings-of .result in
-    let same : fixedOf k ≡ fixed q = c .before .before .before .before .before .before .before .before .settings-of .ensures q (record { same-spots = refl; same-directions = refl; same-scale = refl; same-mirror = refl; same-radius = refl; same-limit = refl; same-distances = refl; same-indices = refl }) in
+    let same : fixedOf k ≡ fixed q = c .before .before .before .before .before .before .before .before .settings-of .ensures in
     let h = c .before .before .before .before .before .before .begin .result in
     let begun = c .before .before .before .before .before .before .begin .ensures in
     let n = total q in
@@ -54,28 +56,30 @@ same-length-4 : tie.Need-same-length-4
 same-length-4 c = search needs
 
 returns : tie.Need-returns
+unfolding fixed start startPose
 returns c =
     let a = c .before .before .before .before .before .before .before .before .before .before .before .before .before .before .before .before .before .before .before .before .before .before .before .before .before .before .before .before .before .args in
     let q = called (a .spots .now) (a .matches .now) (a .directions .now) (a .rotation) (a .scale) (a .mirror) (a .radius) (a .limit) (a .rounds) (lists (a .numbers .now) (a .floats .now) (a .distances .now) (a .indices .now) (a .result .now)) in
     let lawful = c .before .before .before .before .before .before .before .before .before .before .before .before .before .before .before .before .before .before .before .before .before .before .before .before .before .before .before .before .before .pre in
     let k = c .before .before .before .before .before .before .before .before .before .before .before .before .before .before .before .before .before .before .before .before .settings-of .result in
-    let same : fixedOf k ≡ fixed q = c .before .before .before .before .before .before .before .before .before .before .before .before .before .before .before .before .before .before .before .before .settings-of .ensures q (record { same-spots = refl; same-directions = refl; same-scale = refl; same-mirror = refl; same-radius = refl; same-limit = refl; same-distances = refl; same-indices = refl }) in
+    let same : fixedOf k ≡ fixed q = c .before .before .before .before .before .before .before .before .before .before .before .before .before .before .before .before .before .before .before .before .settings-of .ensures in
     let h = c .before .before .before .before .before .before .before .before .before .before .before .before .before .before .before .before .before .before .begin .result in
     let begun = c .before .before .before .before .before .before .before .before .before .before .before .before .before .before .before .before .before .before .begin .ensures in
     let n = total q in
-    refused-answer q lawful k n h _ _ (c .before .before .before .before .before .before .before .before .before .before .before .run .result) same (begun .state (q .given) refl refl refl n) (c .before .before .before .before .before .before .before .before .before .before .before .run .ensures) (c .before .if1 .taken) (c .refused .ensures) (a .result .now)
+    refused-answer q lawful k n h _ _ (c .before .before .before .before .before .before .before .before .before .before .before .run .result) same (begun .state n) (c .before .before .before .before .before .before .before .before .before .before .before .run .ensures) (c .before .if1 .taken) (c .refused .ensures) (a .result .now)
 
 finish-requires : tie.Need-finish-requires
+unfolding fixed start startPose
 finish-requires c κs =
     let a = c .before .before .before .before .before .before .before .before .before .before .before .before .before .before .before .before .before .before .before .before .before .before .before .before .before .before .before .before .before .before .before .args in
     let q = called (a .spots .now) (a .matches .now) (a .directions .now) (a .rotation) (a .scale) (a .mirror) (a .radius) (a .limit) (a .rounds) (lists (a .numbers .now) (a .floats .now) (a .distances .now) (a .indices .now) (a .result .now)) in
     let lawful = c .before .before .before .before .before .before .before .before .before .before .before .before .before .before .before .before .before .before .before .before .before .before .before .before .before .before .before .before .before .before .before .pre in
     let k = c .before .before .before .before .before .before .before .before .before .before .before .before .before .before .before .before .before .before .before .before .before .before .settings-of .result in
-    let same : fixedOf k ≡ fixed q = c .before .before .before .before .before .before .before .before .before .before .before .before .before .before .before .before .before .before .before .before .before .before .settings-of .ensures q (record { same-spots = refl; same-directions = refl; same-scale = refl; same-mirror = refl; same-radius = refl; same-limit = refl; same-distances = refl; same-indices = refl }) in
+    let same : fixedOf k ≡ fixed q = c .before .before .before .before .before .before .before .before .before .before .before .before .before .before .before .before .before .before .before .before .before .before .settings-of .ensures in
     let h = c .before .before .before .before .before .before .before .before .before .before .before .before .before .before .before .before .before .before .before .before .begin .result in
     let begun = c .before .before .before .before .before .before .before .before .before .before .before .before .before .before .before .before .before .before .before .before .begin .ensures in
     let n = total q in
-    ended-fits q lawful k n h _ _ (c .before .before .before .before .before .before .before .before .before .before .before .before .before .run .result) same (begun .state (q .given) refl refl refl n) (c .before .before .before .before .before .before .before .before .before .before .before .before .before .run .ensures) (c .before .before .before .if1 .left) refl
+    ended-fits q lawful k n h _ _ (c .before .before .before .before .before .before .before .before .before .before .before .before .before .run .result) same (begun .state n) (c .before .before .before .before .before .before .before .before .before .before .before .before .before .run .ensures) (c .before .before .before .if1 .left) refl
     (omega (arith, c .before .before .before .before .before .before .before .before .before .before .before .before .before .before .before .before .before .before .before .before .begin .kept, c .before .before .before .before .before .before .before .before .before .before .before .before .before .run .kept)) (c .before .before .before .before .before .before .before .before .before .before .before .before .before .run .last .1 .1 .1 .1 .1 .1 .1 .0) (omega (arith, c .before .before .before .before .before .before .before .before .before .before .before .before .before .run .kept))
 
 same-length-5 : tie.Need-same-length-5
@@ -94,16 +98,17 @@ same-length-9 : tie.Need-same-length-9
 same-length-9 c = search needs
 
 returns-2 : tie.Need-returns-2
+unfolding fixed start startPose
 returns-2 c =
     let a = c .before .before .before .before .before .before .before .before .before .before .before .before .before .before .before .before .before .before .before .before .before .before .before .before .before .before .before .before .before .before .before .before .before .before .before .before .before .before .args in
     let q = called (a .spots .now) (a .matches .now) (a .directions .now) (a .rotation) (a .scale) (a .mirror) (a .radius) (a .limit) (a .rounds) (lists (a .numbers .now) (a .floats .now) (a .distances .now) (a .indices .now) (a .result .now)) in
     let lawful = c .before .before .before .before .before .before .before .before .before .before .before .before .before .before .before .before .before .before .before .before .before .before .before .before .before .before .before .before .before .before .before .before .before .before .before .before .before .before .pre in
     let k = c .before .before .before .before .before .before .before .before .before .before .before .before .before .before .before .before .before .before .before .before .before .before .before .before .before .before .before .before .before .settings-of .result in
-    let same : fixedOf k ≡ fixed q = c .before .before .before .before .before .before .before .before .before .before .before .before .before .before .before .before .before .before .before .before .before .before .before .before .before .before .before .before .before .settings-of .ensures q (record { same-spots = refl; same-directions = refl; same-scale = refl; same-mirror = refl; same-radius = refl; same-limit = refl; same-distances = refl; same-indices = refl }) in
+    let same : fixedOf k ≡ fixed q = c .before .before .before .before .before .before .before .before .before .before .before .before .before .before .before .before .before .before .before .before .before .before .before .before .before .before .before .before .before .settings-of .ensures in
     let h = c .before .before .before .before .before .before .before .before .before .before .before .before .before .before .before .before .before .before .before .before .before .before .before .before .before .before .before .begin .result in
     let begun = c .before .before .before .before .before .before .before .before .before .before .before .before .before .before .before .before .before .before .before .before .before .before .before .before .before .before .before .begin .ensures in
     let n = total q in
-    ended-answer q lawful k n h _ _ (c .before .before .before .before .before .before .before .before .before .before .before .before .before .before .before .before .before .before .before .before .run .result) same (begun .state (q .given) refl refl refl n) (c .before .before .before .before .before .before .before .before .before .before .before .before .before .before .before .before .before .before .before .before .run .ensures) (c .before .before .before .before .before .before .before .before .before .before .if1 .left) (c .before .before .before .before .before .before .finish .ensures)
+    ended-answer q lawful k n h _ _ (c .before .before .before .before .before .before .before .before .before .before .before .before .before .before .before .before .before .before .before .before .run .result) same (begun .state n) (c .before .before .before .before .before .before .before .before .before .before .before .before .before .before .before .before .before .before .before .before .run .ensures) (c .before .before .before .before .before .before .before .before .before .before .if1 .left) (c .before .before .before .before .before .before .finish .ensures)
 
 pub refined-spec : {M : Type 1} → statement M
 refined-spec =

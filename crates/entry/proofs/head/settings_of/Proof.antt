@@ -1,5 +1,5 @@
 -- `settings_of` meets its contract. Assumes nothing.
-use Rattle.entry.proofs.CallParts.{settled}
+use Rattle.entry.specs.Fixed.{fixedFrom}
 use borrow.Author.Needs.{needs}
 use Rattle.entry.proofs.head.settings_of.Statement.{statement}
 use Rattle.entry.proofs.head.settings_of.Tie as tie
@@ -14,7 +14,8 @@ widen-requires : tie.Need-widen-requires
 widen-requires c κs = search needs
 
 returns : tie.Need-returns
-returns c = λ k e. settled k e (c .before .before .farthest-of .ensures) (c .before .smaller .ensures) (c .widen .ensures)
+unfolding fixedFrom
+returns c = rw (c .before .before .farthest-of .ensures, c .before .smaller .ensures, c .widen .ensures)
 
 pub settings-of-spec : {M : Type 1} → statement M
 settings-of-spec =

@@ -51,8 +51,7 @@ atan2-requires-2 c κs = search needs
 
 returns : tie.Need-returns
 returns c =
-    λ g em es.
-    posed g em es (c .before .before .before .before .before .before .before .before .before .before .widened .ensures) (c .before .before .before .before .before .before .before .before .widened2 .ensures) (c .before .before .before .before .before .before .before .atan2 .ensures) (c .before .before .before .before .before .before .clamp .ensures) (c .before .before .before .before .before .asin .ensures) (c .before .before .before .before .north-at .ensures) (c .before .before .east-at .ensures) (c .before .before .before .dot .ensures) (c .before .dot2 .ensures) (c .atan22 .ensures)
+    posed (c .before .before .before .before .before .before .before .before .before .before .before .before .args .t1) (c .before .before .before .before .before .before .before .before .before .before .widened .ensures) (c .before .before .before .before .before .before .before .before .widened2 .ensures) (c .before .before .before .before .before .before .before .atan2 .ensures) (c .before .before .before .before .before .before .clamp .ensures) (c .before .before .before .before .before .asin .ensures) (c .before .before .before .before .north-at .ensures) (c .before .before .east-at .ensures) (c .before .before .before .dot .ensures) (c .before .dot2 .ensures) (c .atan22 .ensures)
 
 pub start-pose-spec : {M : Type 1} → statement M
 start-pose-spec =

@@ -1,5 +1,5 @@
 -- `numbers_fit` meets its contract: the three tests, one after the other. Assumes nothing.
-use Rattle.entry.specs.Entry.{numbersFitOf}
+use Rattle.entry.specs.Check.{numbersFit}
 use borrow.Author.Needs.{needs}
 use Rattle.entry.proofs.refusals.numbers_fit.Statement.{statement}
 use Rattle.entry.proofs.refusals.numbers_fit.Tie as tie
@@ -14,15 +14,15 @@ rotation-fits-requires : tie.Need-rotation-fits-requires
 rotation-fits-requires c κs = search needs
 
 returns : tie.Need-returns
-unfolding numbersFitOf
+unfolding numbersFit
 returns c = rw (← c .before .before .before .before .coordinates-fit .ensures, c .before .before .before .if1 .taken, ← c .before .before .components-fit .ensures, c .before .if2 .taken, ← c .rotation-fits .ensures)
 
 returns-2 : tie.Need-returns-2
-unfolding numbersFitOf
+unfolding numbersFit
 returns-2 c = rw (← c .before .before .before .coordinates-fit .ensures, c .before .before .if1 .taken, ← c .before .components-fit .ensures, c .if2 .left)
 
 returns-3 : tie.Need-returns-3
-unfolding numbersFitOf
+unfolding numbersFit
 returns-3 c = rw (← c .before .coordinates-fit .ensures, c .if1 .left)
 
 pub numbers-fit-spec : {M : Type 1} → statement M

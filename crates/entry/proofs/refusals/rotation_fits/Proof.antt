@@ -1,6 +1,6 @@
 -- `rotation_fits` meets its contract: row by row. Assumes nothing.
 use mathlib.Core.Path.{sym}
-use Rattle.entry.proofs.CallParts.{first-out, second-out, third}
+use Rattle.entry.proofs.Stages.{first-out, second-out, third}
 use borrow.Author.Needs.{needs}
 use Rattle.entry.proofs.refusals.rotation_fits.Statement.{statement}
 use Rattle.entry.proofs.refusals.rotation_fits.Tie as tie

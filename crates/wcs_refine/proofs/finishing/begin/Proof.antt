@@ -18,7 +18,7 @@ returns : tie.Need-returns
 returns c =
     let a = c .before .before .before .before .before .before .before .args in
     record {
-      state = λ g e f m n. begin-state (a .matches .now) (a .numbers .now) _ _ (c .before .before .before .lay-over .ensures) (c .before .before .before .before .before .before .before .pre .1) g (c .start-pose .ensures g e f) m _ _ _;
+      state = λ n. begin-state (a .matches .now) (a .numbers .now) _ _ _ (c .before .before .before .lay-over .ensures) (c .before .before .before .before .before .before .before .pre .1) (c .start-pose .ensures) _ _ _;
       used = refl;
       cached = refl;
     }
