@@ -5,7 +5,8 @@ use mathlib.Core.List.{List}
 use lib.ListN.{length}
 use lib.Ieee.{Float}
 
--- The lists that a call may write to.
+-- "Lists written to are all that the call may write, here the result, working and candidate lists": the working lists of whole numbers and of
+-- floats, the distances and the indices of the candidate list, and the result list.
 pub record Lent : Type 0 where
   pub numbers : List ℕ
   pub floats : List Float
@@ -13,7 +14,8 @@ pub record Lent : Type 0 where
   pub indices : List ℕ
   pub result : List ℕ
 
--- Everything but spots and directions.
+-- The arguments of `wcs_refine` beside spots and directions: starting matches, rotation, pixel scale, `parity_flip`, match radius, matching limit,
+-- most rounds, and the lent lists.
 pub record Given : Type 0 where
   pub matches : List ℕ
   pub rotation : List (List Float)
@@ -24,7 +26,7 @@ pub record Given : Type 0 where
   pub rounds : ℕ
   pub lent : Lent
 
--- Flat lists: a spot is two numbers, a match a spot and a direction, a direction three components.
+-- A call of `wcs_refine`. Its lists are flat: a spot is two numbers, a match a spot and a direction, a direction three components.
 pub record Call : Type 0 where
   pub spots : List Float
   pub directions : List Float
@@ -48,7 +50,7 @@ workFor s m d = 16 * (s + m + d)
 abbrev pub resultFor : ℕ → ℕ → ℕ → ℕ
 resultFor s m limit = 2 * max m (min s limit)
 
--- The same of a call.
+-- The same of a call: all that it has together, the places of a working list, those of the result list.
 abbrev pub total : Call → ℕ
 total c = spotCount c + matchCount c + directionCount c
 

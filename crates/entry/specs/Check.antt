@@ -1,6 +1,6 @@
 -- 01, "Refusals in checking order", 5 to 11. Definitions only. Assumes nothing.
 use Prim.Native.Nat.{ℕ, zero, suc, _/_, _%_}
-use mathlib.Core.Bool.{Bool, true, false, cond, _&&_}
+use mathlib.Core.Bool.{Bool, true, cond, _&&_}
 use mathlib.Core.List.{List, [], _∷_}
 use lib.Dec.{leb, ltb, eqb}
 use lib.ListN.{length}
@@ -11,7 +11,7 @@ use Rattle.entry.specs.Arguments.{Call, workFor, resultFor}
 
 -- ---- the bounds; ranges include both ends
 
--- 6. spots, starting matches, directions, rounds
+-- 6. the most spots, starting matches, directions and rounds
 abbrev pub mostSpots : ℕ
 mostSpots = 4096
 
@@ -40,7 +40,7 @@ longComponent = f64 0x4000000000000000
 unfoldable pub between : Float → Float → Float → Bool
 between lo x hi = le lo x && le x hi
 
--- A coordinate, and a component or entry, within its range.
+-- 9: a spot's coordinate, and a direction's component or the rotation's entry, within its range.
 abbrev pub lawfulCoordinate : Float → Bool
 lawfulCoordinate x = between (neg farSpot) x farSpot
 
@@ -72,13 +72,14 @@ unfoldable pub radiusFits : Float → Bool
 unfolding between
 radiusFits radius = between least radius one64
 
--- 9. "A spot coordinate (f64) is not within ±2^20, or a direction component or rotation entry (f32) not within ±2."
+-- 9, of the rotation's nine entries.
 unfoldable pub rotationFits : List (List Float) → Bool
 rotationFits m =
     lawfulComponent (entry m 0 0) && lawfulComponent (entry m 0 1) && lawfulComponent (entry m 0 2)
     && lawfulComponent (entry m 1 0) && lawfulComponent (entry m 1 1) && lawfulComponent (entry m 1 2)
     && lawfulComponent (entry m 2 0) && lawfulComponent (entry m 2 1) && lawfulComponent (entry m 2 2)
 
+-- 9. "A spot coordinate (f64) is not within ±2^20, or a direction component or rotation entry (f32) not within ±2."
 unfoldable pub numbersFit : List Float → List Float → List (List Float) → Bool
 unfolding every rotationFits between
 numbersFit spots directions rotation =
@@ -134,7 +135,7 @@ refusalOf spots matches directions rotation scale radius limit rounds numbers fl
     (orElse (numbersRefused spots directions rotation)
     (namesRefused matches (length spots / 2) (length directions / 3) limit numbers floats result)))
 
--- The same of a call.
+-- The same of a call: the number of its refusal on entry, or 0.
 unfoldable pub refusal : Call → ℕ
 unfolding refusalOf
 refusal c =

@@ -7,7 +7,7 @@ use Rattle.entry.specs.Check.{lawfulComponent}
 use Rattle.entry.specs.Fixed.{Fixed}
 use Rattle.entry.specs.declared.Settings.{Settings}
 
--- 9, of a row of the rotation.
+-- 9, of a row of the rotation: the code looks at the rotation row by row.
 unfoldable pub rowFits : List Float → Bool
 rowFits v = lawfulComponent (at v 0) && lawfulComponent (at v 1) && lawfulComponent (at v 2)
 

@@ -12,7 +12,11 @@ pub fn clear_all(
     distances: &mut [f64],
     indices: &mut [usize],
 )
-    ensures { λ _. ⌜ (now (numbers .exit) ≡ replicate (length (now (numbers .entry))) 0) × (now (floats .exit) ≡ replicate (length (now (floats .entry))) zero64) × (now (distances .exit) ≡ replicate (length (now (distances .entry))) zero64) × (now (indices .exit) ≡ replicate (length (now (indices .entry))) 0) ⌝ }
+    ensures { λ _.
+        ⌜ (now (numbers .exit) ≡ replicate (length (now (numbers .entry))) 0)
+        × (now (floats .exit) ≡ replicate (length (now (floats .entry))) zero64)
+        × (now (distances .exit) ≡ replicate (length (now (distances .entry))) zero64)
+        × (now (indices .exit) ≡ replicate (length (now (indices .entry))) 0) ⌝ }
 {
     let n = numbers.len();
     let f = floats.len();

@@ -26,7 +26,8 @@ pub use head::start_pose;
 pub use head::theta_margin;
 pub use refusals::refusal_of;
 
-// All that the rounds read beside spots, directions and their state: `count` directions, and room for `capacity` pairs.
+// All that the rounds read beside spots, directions and their state, of `count` directions. No code reads `capacity`, since the matcher measures
+// its own lists: it stands here so that the settings mean a `Fixed` (`fixedOf` in specs/Entry.antt).
 pub struct Settings {
     pub scale: f64,
     pub mirror: bool,

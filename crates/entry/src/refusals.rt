@@ -200,7 +200,7 @@ fn names(
     if !are_named(matches, spots, directions) {
         return 10;
     }
-    if are_long(
+    if !are_long(
         spots,
         matches.len() / 2,
         directions,
@@ -209,9 +209,9 @@ fn names(
         floats,
         result,
     ) {
-        return 0;
+        return 11;
     }
-    11
+    0
 }
 
 // The number of the first check that fails, or 0. Of the lists of numbers, floats and results only the lengths count.

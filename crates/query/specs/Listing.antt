@@ -7,7 +7,7 @@ use mathlib.Core.List.{List, [], _∷_}
 use lib.ListN.{length}
 use lib.Ieee.{Float, lt, le}
 use Rattle.lists.specs.Fronted.{fronted}
-use Rattle.rounding.specs.Arith.{_⊕_, _⊖_, _⊗_, _⊘_, f32, zero64, one64}
+use Rattle.rounding.specs.Arith.{_⊕_, _⊖_, _⊗_, _⊘_, zero64, one64}
 use Rattle.rounding.specs.Narrow.{narrowed}
 use Rattle.rounding.specs.Methods.{absF, clampF}
 use Rattle.angles.specs.SinCos.{cos32}
@@ -15,19 +15,20 @@ use Rattle.solve.specs.Vector.{row, dot}
 use Rattle.project.specs.Camera.{boresight}
 use Rattle.fit.specs.Rows.{directionAt}
 use Rattle.fit.specs.declared.Pose.{Pose}
+use Rattle.query.specs.Query.{pi32}
 use Rattle.query.specs.declared.Fall.{Fall}
 
 -- ---- the query
 
 -- `leastCos` of a search radius and a margin.
 unfoldable pub leastCosOf : Float → Float → Float
-leastCosOf search margin = cos32 (clampF (narrowed (search ⊕ margin)) zero64 (f32 0x40490FDB))
+leastCosOf search margin = cos32 (clampF (narrowed (search ⊕ margin)) zero64 pi32)
 
 -- `drifted` past a cosine and a margin of roll.
 unfoldable pub driftedFrom : List Float → Float → Pose → Float → Float → Bool
 driftedFrom b theta p cosine margin = lt (dot b (boresight (p .ra) (p .dec))) cosine || lt margin (absF (p .theta ⊖ theta))
 
--- So many stand at the front of the list.
+-- So many new ones stand at the front of the list, and what stands after them is as it was.
 pub record Fronted (new was now : List ℕ) (r : ℕ) : Type 0 where
   pub count : r ≡ length new
   pub list : now ≡ fronted new was
@@ -42,7 +43,7 @@ fallOf inv cut r rows v =
     let y = inv ⊗ dot (row rows 1) v ⊘ z in
     record { x = x; y = y; inside = not (le z cut) && le (x ⊗ x ⊕ y ⊗ y) (r ⊗ r) }
 
--- the same of a direction by its number, at a scale
+-- The same of a direction by its number, at a scale.
 abbrev pub falling : Float → Float → Float → List Float → List (List Float) → ℕ → Fall
 falling scale cut r directions rows j = fallOf (one64 ⊘ scale) cut r rows (directionAt directions j)
 

@@ -57,7 +57,9 @@ pub fn prune_in_place(
     cut: f64,
     keep_r: f64,
 ) -> usize
-    ensures { λ w. ⌜ Fronted (standing (falling scale cut «keep_r» (now (directions .entry)) rows) (now (listed .entry))) (now (listed .entry)) (now (listed .exit)) w ⌝ }
+    ensures { λ w.
+        ⌜ Fronted (standing (falling scale cut «keep_r» (now (directions .entry)) rows) (now (listed .entry)))
+        (now (listed .entry)) (now (listed .exit)) w ⌝ }
 {
     let inv = 1.0 / scale;
     let n = listed.len();

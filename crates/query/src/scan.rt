@@ -56,7 +56,11 @@ pub fn least_cos_of(search: f64, margin: f64) -> f32
 
 // The directions within the cone, ascending, at the front of `out`; of the first ones, as many as it has places.
 pub fn scan_into(directions: &[f32], axis: [f32; 3], least: f32, out: &mut [usize]) -> usize
-    ensures { λ r. ⌜ Fronted (scanned (now (directions .entry)) axis least 0 (min (length (now (directions .entry)) / 3) (length (now (out .entry))))) (now (out .entry)) (now (out .exit)) r ⌝ }
+    ensures { λ r.
+        ⌜ Fronted
+        (scanned (now (directions .entry)) axis least 0
+        (min (length (now (directions .entry)) / 3) (length (now (out .entry)))))
+        (now (out .entry)) (now (out .exit)) r ⌝ }
 {
     let n = smaller(directions.len() / 3, out.len());
     let x = axis[0];

@@ -13,12 +13,12 @@ use Rattle.fit.specs.declared.Pose.{Pose}
 use Rattle.pairs.specs.Candidates.{capacity}
 use Rattle.entry.specs.Arguments.{Call, Given, Lent, spotCount, matchCount, directionCount, total, resultPlaces}
 use Rattle.entry.specs.Check.{refusal}
-use Rattle.entry.specs.Fixed.{Fixed, fixed, startPose}
+use Rattle.entry.specs.Fixed.{Fixed, fixed}
 use Rattle.entry.specs.Entry.{fixedOf}
 use Rattle.entry.specs.declared.Settings.{Settings}
 use Rattle.query.specs.Query.{Cache, empty}
 use Rattle.lists.specs.Fronted.{fronted}
-use Rattle.wcs_refine.specs.Round.{State, Ending, refused, ended, Run, loop}
+use Rattle.wcs_refine.specs.Round.{State, Ending, Run, loop}
 use Rattle.wcs_refine.specs.Closing.{Closed, unsound, fine, cleaned, Report, reported}
 use Rattle.wcs_refine.specs.Cleaning.{closedOf, CleanedTo, reportOf}
 use Rattle.wcs_refine.specs.Keeping.{cacheOf, heldState, Ready, Fits, endingOf, RanTo}

@@ -16,6 +16,7 @@ use Rattle.wcs_refine.specs.Associate.{Link, links, sameMatches}
 use Rattle.wcs_refine.specs.Listing.{renamedBy}
 use Rattle.wcs_refine.specs.declared.associating.Tally.{Tally}
 
+-- A match of a spot and a direction, and whether two are the same.
 abbrev pub linkOf : ℕ → ℕ → Link
 linkOf s d = record { spot = s; direction = d }
 
@@ -75,6 +76,7 @@ pub record Marked (base n start t : ℕ) (now was : List ℕ) : Type 0 where
   pub few : Few base n t now
   pub told : (x : Link) → tells base n start now was x ≡ among x (links (slice start (start + 2 * t) was))
 
+-- Whether the t new matches are the present ones; all but the table is as it was.
 pub record Compared (base n start t used : ℕ) (now was : List ℕ) (r : Bool) : Type 0 where
   pub answer : r ≡ sameMatches (slice start (start + 2 * t) was) (take (2 * used) was)
   pub kept : Kept base n now was
@@ -91,8 +93,10 @@ pub record NewAt (n within t : ℕ) (new before after : List ℕ) : Type 0 where
   pub list : slice (8 * n) (8 * n + 2 * t) after ≡ new
 
 -- The matches of the spots with the q predictions, unless there are more pairs than the candidate lists hold.
-pub record FoundTo (n q : ℕ) (spots : List Float) (limit : ℕ) (r : Float) (floats distances : List Float) (indices before after : List ℕ) (f : Tally) : Type 0 where
-  pub full : f .full ≡ ltb (capacity distances indices) (length (pairs spots limit (slice (2 * n) (2 * n + 2 * q) floats) (r ⊗ r)))
+pub record FoundTo (n q : ℕ) (spots : List Float) (limit : ℕ) (r : Float) (floats distances : List Float)
+    (indices before after : List ℕ) (f : Tally) : Type 0 where
+  pub full : f .full
+      ≡ ltb (capacity distances indices) (length (pairs spots limit (slice (2 * n) (2 * n + 2 * q) floats) (r ⊗ r)))
   pub within : f .within ≡ spotsWithin spots limit
   pub found : f .full ≡ false
       → (f .count ≡ length (matchesOf spots limit (slice (2 * n) (2 * n + 2 * q) floats) (r ⊗ r)))

@@ -15,8 +15,10 @@ use Rattle.wcs_refine.specs.declared.WcsRefineResult.{WcsRefineResult}
 use Rattle.query.specs.declared.Held.{Held}
 
 -- The state that the run starts from: the starting matches at the front of the working list, and no cached query.
-pub record Begun (matches : List ℕ) (rotation : List (List Float)) (scale : Float) (after : List ℕ) (h : Held) : Type 0 where
-  pub state : (n : ℕ) → heldState n h after ≡ record { pose = startPoseOf rotation scale; matches = matches; cache = empty }
+pub record Begun (matches : List ℕ) (rotation : List (List Float)) (scale : Float) (after : List ℕ)
+    (h : Held) : Type 0 where
+  pub state : (n : ℕ) → heldState n h after
+      ≡ record { pose = startPoseOf rotation scale; matches = matches; cache = empty }
   pub used : h .used ≡ length matches / 2
   pub cached : h .cached ≡ 0
 

@@ -8,7 +8,7 @@ use lib.Ieee.{Float}
 use Rattle.rounding.specs.Arith.{zero64}
 use Rattle.solve.specs.Vector.{row}
 use Rattle.fit.specs.declared.Pose.{Pose}
-use Rattle.entry.specs.Arguments.{Call, Given, Lent}
+use Rattle.entry.specs.Arguments.{Call, Lent}
 use Rattle.wcs_refine.specs.Closing.{Report}
 use Rattle.wcs_refine.specs.Call.{Answer, no, ok, Outcome, outcome}
 use Rattle.wcs_refine.specs.declared.WcsRefineResult.{WcsRefineResult}
@@ -51,6 +51,7 @@ accepted r rounds passes queries = record {
   cov2 = row (r .covariance) 2;
 }
 
+-- "If an answer is an enum, a definition states this paper's number and values for each of its cases."
 unfoldable pub valuesOf : Answer → WcsRefineResult
 unfolding refusedWith accepted
 valuesOf (no n) = refusedWith n
@@ -61,11 +62,12 @@ pub record Returned : Type 0 where
   pub result : WcsRefineResult
   pub lent : Lent
 
+-- The same of the outcome of a call.
 unfoldable pub returned : Outcome → Returned
 unfolding valuesOf
 returned o = record { result = valuesOf (o .answer); lent = o .lent }
 
--- The arguments of the code, in its order, as a call.
+-- The arguments of the code, in its order: the lent lists, and the call that they are part of.
 abbrev pub lists : List ℕ → List Float → List Float → List ℕ → List ℕ → Lent
 lists numbers floats distances indices result = record { numbers = numbers; floats = floats; distances = distances; indices = indices; result = result }
 

@@ -14,7 +14,7 @@ use Rattle.residuals.specs.Residual.{residuals}
 use Rattle.fit.specs.declared.Pose.{Pose}
 use Rattle.entry.specs.Fixed.{Fixed}
 use Rattle.passes.specs.Fit.{Passes, fitPasses}
-use Rattle.wcs_refine.specs.Clip.{Statistics, statistics, clipped}
+use Rattle.wcs_refine.specs.Clip.{statistics, clipped}
 use Rattle.query.specs.Query.{Cache, empty, full, query, drifted, Prediction, predictions, pruned}
 use Rattle.wcs_refine.specs.Associate.{adaptivePx, laid, renamed, sameMatches}
 
@@ -35,26 +35,31 @@ pub record Found : Type 0 where
   pub next : Next
   pub queries : List (List ℕ)
 
+-- What a round comes to: its search, and how many fit passes it made.
 pub record Round : Type 0 where
   pub found : Found
   pub passes : ℕ
+
+-- `if new_matches.len() >= 4`
+abbrev pub fewestNew : ℕ
+fewestNew = 4
 
 -- "reaching here means re-association produced no change": at least 4 new matches that differ from the present ones take their place.
 unfoldable pub settled : Pose → List ℕ → Cache → List ℕ → Next
 unfolding sameMatches
 settled p ms c new =
-    cond (leb 4 (length new / 2) && not (sameMatches new ms))
+    cond (leb fewestNew (length new / 2) && not (sameMatches new ms))
     (go (record { pose = p; matches = new; cache = c }))
     (done (record { pose = p; matches = ms; cache = c }))
 
--- The matcher, with 01's refusal 13 where it finds more pairs than the candidate lists hold.
+-- `greedy_unique_matches`, with refusal 13: "A round finds more in-radius pairs than the candidate list holds".
 unfoldable pub associated : Fixed → List Float → Pose → List ℕ → Cache → Float → List Prediction → Next
 unfolding settled renamed laid pairs matchesOf
 associated k spots p ms c r qs =
     cond (ltb (k .capacity) (length (pairs spots (k .limit) (laid qs) (r ⊗ r)))) (refuse 13)
     (settled p ms c (renamed qs (matchesOf spots (k .limit) (laid qs) (r ⊗ r))))
 
--- With a fresh query: it is counted, and what lies beyond keep_r is not cached.
+-- Phase D after the fresh query `listed`: it is counted, and what lies beyond keep_r is not cached.
 unfoldable pub fresh : Fixed → List Float → List Float → Pose → List ℕ → Float → List ℕ → Found
 unfolding associated predictions pruned cameraRows boresight
 fresh k spots directions p ms r listed =
@@ -64,8 +69,9 @@ fresh k spots directions p ms r listed =
       queries = listed ∷ [];
     }
 
--- With the cached one, if the pose has not drifted from it.
-unfoldable pub reused : Fixed → List Float → List Float → Pose → List ℕ → Float → List Float → Float → List ℕ → Bool → Found
+-- Phase D with the query cached at boresight b and roll theta: a fresh one where the pose has drifted from it, else the cached one, uncounted.
+unfoldable pub reused : Fixed → List Float → List Float → Pose → List ℕ → Float → List Float → Float → List ℕ → Bool
+    → Found
 unfolding fresh associated predictions query cameraRows
 reused k spots directions p ms r b theta listed true = fresh k spots directions p ms r (query k directions p)
 reused k spots directions p ms r b theta listed false = record {
@@ -73,6 +79,7 @@ reused k spots directions p ms r b theta listed false = record {
   queries = [];
 }
 
+-- Phase D, "Re-associate", with the matcher's radius r: "(Re)query the catalog cone only when the cache is empty or the fit has drifted past a margin."
 unfoldable pub searched : Fixed → List Float → List Float → Pose → List ℕ → Float → Cache → Found
 unfolding fresh reused query drifted
 searched k spots directions p ms r empty = fresh k spots directions p ms r (query k directions p)
@@ -85,6 +92,7 @@ rest k spots directions p ms c rs =
     let t = statistics rs in
     searched k spots directions p (clipped rs t ms) (adaptivePx k t) c
 
+-- After Phase A: where its passes met refusal 12 the round ends with it, and makes no query; else phases B to D at the pose that they left.
 unfoldable pub fitted : Fixed → List Float → List Float → State → List Row → Passes → Round
 unfolding rest residuals viewOf
 fitted k spots directions s rs f = record {
@@ -92,14 +100,20 @@ fitted k spots directions s rs f = record {
   passes = f .passes;
 }
 
+-- `for inner_iter in 0..10`
+abbrev pub mostPasses : ℕ
+mostPasses = 10
+
+-- One turn of the "outer refinement loop": Phase A, the passes of the fit, then the rest.
 unfoldable pub round : Fixed → List Float → List Float → State → Round
 unfolding fitted fitPasses rows
 round k spots directions s =
     let rs = rows spots directions (s .matches) in
-    fitted k spots directions s rs (fitPasses 10 (k .cut) rs (s .pose))
+    fitted k spots directions s rs (fitPasses mostPasses (k .cut) rs (s .pose))
 
 -- ---- the loop
 
+-- The loop meets refusal 12 or 13, or ends in a state: converged, or after its last round.
 pub data Ending : Type 0 where
   refused : ℕ → Ending
   ended : State → Ending
@@ -111,11 +125,14 @@ pub record Run : Type 0 where
   pub passes : ℕ
   pub queries : List (List ℕ)
 
+-- One round, of n passes and the queries qs, and what follows it by what it came to. "Reported .. are rounds, fit passes and queries, as the Rust
+-- counts WCS_OUTER, WCS_INNER and WCS_REASSOC_CALL": a round counts once, its passes and queries before those of the rounds after it.
 unfoldable pub carry : ℕ → List (List ℕ) → Next → (State → Run) → Run
 carry n qs (go s) f = let r = f s in record { ending = r .ending; rounds = suc (r .rounds); passes = n + r .passes; queries = qs ++ r .queries }
 carry n qs (done s) f = record { ending = ended s; rounds = 1; passes = n; queries = qs }
 carry n qs (refuse x) f = record { ending = refused x; rounds = 1; passes = n; queries = qs }
 
+-- `for outer_iter in 0..max_iterations`: at most so many rounds.
 unfoldable pub loop : Fixed → List Float → List Float → ℕ → State → Run
 unfolding carry round
 loop k spots directions zero s = record { ending = ended s; rounds = 0; passes = 0; queries = [] }

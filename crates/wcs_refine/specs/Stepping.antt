@@ -40,9 +40,11 @@ abbrev pub residualsAt : Settings → List Float → List Float → Pose → Lis
 residualsAt k spots directions p ms = residuals (viewOf p (k .cut)) (rows spots directions ms)
 
 -- So many matches the clip leaves, at the front of their list, and the matcher's radius after it.
-pub record TrimmedTo (k : Settings) (spots directions : List Float) (p : Pose) (before after : List ℕ) (r : Trimmed) : Type 0 where
+pub record TrimmedTo (k : Settings) (spots directions : List Float) (p : Pose) (before after : List ℕ)
+    (r : Trimmed) : Type 0 where
   pub fewer : r .used ≤ length before / 2
-  pub front : take (2 * r .used) after ≡ clipped (residualsAt k spots directions p before) (statistics (residualsAt k spots directions p before)) before
+  pub front : take (2 * r .used) after
+      ≡ clipped (residualsAt k spots directions p before) (statistics (residualsAt k spots directions p before)) before
   pub radius : r .radius ≡ adaptivePx (fixedOf k) (statistics (residualsAt k spots directions p before))
 
 -- What phases B to D come to, from the pose of the state h.
@@ -50,7 +52,9 @@ abbrev pub restOf : Settings → ℕ → List Float → List Float → Held → 
 restOf k n spots directions h l =
     rest (fixedOf k) spots directions (h .pose) (heldMatches h l) (heldCache n h l) (residualsAt k spots directions (h .pose) (heldMatches h l))
 
-pub record RestTo (k : Settings) (n : ℕ) (spots directions : List Float) (h : Held) (before after : List ℕ) (s : Sought) : Type 0 where
+-- The code's phases B to D, from the state h, are those of the definition.
+pub record RestTo (k : Settings) (n : ℕ) (spots directions : List Float) (h : Held) (before after : List ℕ)
+    (s : Sought) : Type 0 where
   pub next : nextOf (s .verdict) (heldState n (s .held) after) ≡ restOf k n spots directions h before .next
   pub count : s .queries ≡ length (restOf k n spots directions h before .queries)
   pub fits : Fits k n (s .held)

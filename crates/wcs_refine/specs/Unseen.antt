@@ -4,8 +4,8 @@ use mathlib.Core.Logic.{_⊎_}
 use mathlib.Core.List.{List, [], _∷_}
 use Prim.Native.Nat.{ℕ, _≤_, _<_}
 use lib.Dec.{T}
-use lib.ListN.{length, getD}
-use lib.Ieee.{Float, nan, le}
+use lib.ListN.{length}
+use lib.Ieee.{Float, le}
 use Rattle.fit.specs.Rows.{spotAt, directionAt}
 use Rattle.fit.specs.declared.Spot.{Spot}
 use Rattle.entry.specs.Arguments.{Call, Lent, spotCount, directionCount}
@@ -22,7 +22,7 @@ pub record Alike (a b : Call) : Type 0 where
   pub directions : length (a .directions) ≡ length (b .directions)
   pub given : a .given ≡ b .given
 
--- "Unchanged: the same bits in both calls." A float that is no NaN is determined by its bits, and a lawful number is no NaN.
+-- "Unchanged: the same bits in both calls", of a spot and of a direction. A float that is no NaN is determined by its bits, and a lawful number is no NaN.
 abbrev pub SpotUnchanged : Call → Call → ℕ → Type 0
 SpotUnchanged a b i = spotAt (a .spots) i ≡ spotAt (b .spots) i
 
@@ -38,7 +38,7 @@ abbrev pub NamesDirection : ℕ → List Link → Type 0
 NamesDirection j [] = ⊥
 NamesDirection j (m ∷ ms) = (j ≡ m .direction) ⊎ NamesDirection j ms
 
--- A cone query lists a direction.
+-- A cone query lists a direction, and one of several queries does.
 abbrev pub In : ℕ → List ℕ → Type 0
 In j [] = ⊥
 In j (x ∷ l) = (j ≡ x) ⊎ In j l
@@ -47,7 +47,7 @@ abbrev pub Listed : ℕ → List (List ℕ) → Type 0
 Listed j [] = ⊥
 Listed j (q ∷ qs) = In j q ⊎ Listed j qs
 
--- "Lawful: each number within its range in the refusals."
+-- "Lawful: each number within its range in the refusals": of a spot, of a direction.
 abbrev pub LawfulSpot : Spot → Type 0
 LawfulSpot s = T (lawfulCoordinate (s .px)) × T (lawfulCoordinate (s .py))
 
@@ -77,7 +77,8 @@ pub record SpotUnseen (a b : Call) (i : ℕ) : Type 0 where
 
 -- Whatever differs is unseen in both calls.
 pub record OnlyUnseen (a b : Call) : Type 0 where
-  pub direction : (j : ℕ) → j < directionCount a → (DirectionUnchanged a b j → ⊥) → DirectionUnseen a j × DirectionUnseen b j
+  pub direction : (j : ℕ) → j < directionCount a → (DirectionUnchanged a b j → ⊥)
+      → DirectionUnseen a j × DirectionUnseen b j
   pub spot : (i : ℕ) → i < spotCount a → (SpotUnchanged a b i → ⊥) → SpotUnseen a b i × SpotUnseen b a i
 
 -- Demand 3: "give the same refusal or the same answer, every bit and every count, and leave every lent list written to with the same contents".

@@ -44,7 +44,8 @@ pub(crate) fn accepted(
     passes: usize,
     queries: usize,
 ) -> WcsRefineResult
-    ensures { λ r. ⌜ ((ms : List ℕ) → length ms / 2 ≡ used → r ≡ accepted (reportOf report pose ms) rounds passes queries) ⌝ }
+    ensures { λ r.
+        ⌜ ((ms : List ℕ) → length ms / 2 ≡ used → r ≡ accepted (reportOf report pose ms) rounds passes queries) ⌝ }
 {
     let cd0 = report.cd0;
     let cd1 = report.cd1;

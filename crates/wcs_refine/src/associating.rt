@@ -43,8 +43,11 @@ fn find(
     distances: &mut [f64],
     indices: &mut [usize],
 ) -> Tally
-    requires { ⌜ (length (now spots) / 2 + q ≤ room) × (16 * room ≤ length (now numbers)) × (16 * room ≤ length (now floats)) ⌝ }
-    ensures { λ f. ⌜ FoundTo room q (now (spots .entry)) limit r (now (floats .entry)) (now (distances .entry)) (now (indices .entry)) (now (numbers .entry)) (now (numbers .exit)) f ⌝ }
+    requires { ⌜ (length (now spots) / 2 + q ≤ room) × (16 * room ≤ length (now numbers))
+        × (16 * room ≤ length (now floats)) ⌝ }
+    ensures { λ f.
+        ⌜ FoundTo room q (now (spots .entry)) limit r (now (floats .entry)) (now (distances .entry))
+        (now (indices .entry)) (now (numbers .entry)) (now (numbers .exit)) f ⌝ }
 {
     let within = smaller(spots.len() / 2, limit);
     let points = 2 * room;
@@ -78,7 +81,8 @@ fn find(
 // The n numbers from place `from` on, also at the front.
 fn bring_forward(numbers: &mut [usize], from: usize, n: usize)
     requires { ⌜ (n ≤ from) × (from + n ≤ length (now numbers)) ⌝ }
-    ensures { λ _. ⌜ now (numbers .exit) ≡ slice from (from + n) (now (numbers .entry)) ++ drop n (now (numbers .entry)) ⌝ }
+    ensures { λ _.
+        ⌜ now (numbers .exit) ≡ slice from (from + n) (now (numbers .entry)) ++ drop n (now (numbers .entry)) ⌝ }
 {
     let mut i: usize = 0;
     while i < n {
@@ -87,7 +91,6 @@ fn bring_forward(numbers: &mut [usize], from: usize, n: usize)
     }
 }
 
-// The state with t matches, its pose and its cached query as they are.
 // The first q predictions stand in their regions. Matches that differ from the present ones, at least four, take their place.
 pub(crate) fn associate(
     spots: &[f64],
@@ -101,8 +104,11 @@ pub(crate) fn associate(
     distances: &mut [f64],
     indices: &mut [usize],
 ) -> Step
-    requires { ⌜ Matchable k room q (now spots) (now numbers) (now floats) (now distances) (now indices) × Fits k room held × (k .count ≤ room) ⌝ }
-    ensures { λ s. ⌜ AssociatedTo k room (now (spots .entry)) held r q (now (numbers .entry)) (now (floats .entry)) (now (numbers .exit)) s ⌝ }
+    requires { ⌜ Matchable k room q (now spots) (now numbers) (now floats) (now distances) (now indices)
+        × Fits k room held × (k .count ≤ room) ⌝ }
+    ensures { λ s.
+        ⌜ AssociatedTo k room (now (spots .entry)) held r q (now (numbers .entry)) (now (floats .entry))
+        (now (numbers .exit)) s ⌝ }
 {
     let f = find(
         spots,

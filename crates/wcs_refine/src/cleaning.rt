@@ -39,7 +39,11 @@ pub(crate) struct Cleaned {
 
 // One least-squares pass on the cleaned set.
 fn refit(matches: &[usize], directions: &[f32], spots: &[f64], pose: Pose, cut: f64) -> Refitted
-    ensures { λ r. ⌜ ((after : Pose → Closed) → follows r after ≡ refitted pose (lsFitOnce (viewOf pose cut) (rows (now (spots .entry)) (now (directions .entry)) (now (matches .entry)))) after) ⌝ }
+    ensures { λ r.
+        ⌜ ((after : Pose → Closed) → follows r after
+        ≡ refitted pose
+        (lsFitOnce (viewOf pose cut) (rows (now (spots .entry)) (now (directions .entry)) (now (matches .entry))))
+        after) ⌝ }
 {
     let s = ls_fit_once(matches, directions, spots, pose, cut);
     let Solution::Solved(d_theta, d_xi, d_eta) = s else {
@@ -60,7 +64,9 @@ fn clip_once(
     cut: f64,
 ) -> Clip
     requires { ⌜ 2 * (length (now matches) / 2) ≤ length (now floats) ⌝ }
-    ensures { λ r. ⌜ clipped r (now (matches .exit)) ≡ closingClip cut (now (spots .entry)) (now (directions .entry)) pose (now (matches .entry)) ⌝ }
+    ensures { λ r.
+        ⌜ clipped r (now (matches .exit)) ≡ closingClip cut (now (spots .entry)) (now (directions .entry)) pose
+        (now (matches .entry)) ⌝ }
 {
     let n = matches.len() / 2;
     if n < FEWEST_MATCHES {
@@ -85,7 +91,9 @@ pub(crate) fn clean(
     cut: f64,
 ) -> Cleaned
     requires { ⌜ (2 * used ≤ length (now matches)) × (2 * used ≤ length (now floats)) ⌝ }
-    ensures { λ r. ⌜ CleanedTo cut (now (spots .entry)) (now (directions .entry)) pose used (now (matches .entry)) (now (matches .exit)) r ⌝ }
+    ensures { λ r.
+        ⌜ CleanedTo cut (now (spots .entry)) (now (directions .entry)) pose used (now (matches .entry))
+        (now (matches .exit)) r ⌝ }
 {
     let mut p = pose;
     let mut n = used;

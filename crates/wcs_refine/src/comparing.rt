@@ -17,7 +17,9 @@ fn strike(
     direction: usize,
 ) -> bool
     requires { ⌜ (base + n ≤ start) × (start + 2 * t ≤ length (now numbers)) × Few base n t (now numbers) ⌝ }
-    ensures { λ r. ⌜ (r ≡ tells base n start (now (numbers .entry)) (now (numbers .entry)) (linkOf spot direction)) × (now (numbers .exit) ≡ cond r (set (now (numbers .entry)) (base + spot) 0) (now (numbers .entry))) ⌝ }
+    ensures { λ r.
+        ⌜ (r ≡ tells base n start (now (numbers .entry)) (now (numbers .entry)) (linkOf spot direction))
+        × (now (numbers .exit) ≡ cond r (set (now (numbers .entry)) (base + spot) 0) (now (numbers .entry))) ⌝ }
 {
     if n <= spot {
         return false;

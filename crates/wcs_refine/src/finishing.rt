@@ -4,7 +4,7 @@ ghost use Prim.Native.Nat.{_*_, _%_, _≤_};
 ghost use lib.ListN.{length, take};
 ghost use Rattle.entry.specs.Entry.{fixedOf};
 ghost use Rattle.lists.specs.Fronted.{fronted};
-ghost use Rattle.wcs_refine.specs.Closing.{cleaned};
+ghost use Rattle.wcs_refine.specs.Closing.{mostClips, cleaned};
 ghost use Rattle.wcs_refine.specs.Ending.{Begun, concluded, Answered};
 use crate::WcsRefineResult;
 use crate::answering::accepted;
@@ -64,8 +64,15 @@ pub(crate) fn finish(
     floats: &mut [f64],
     result: &mut [usize],
 ) -> WcsRefineResult
-    requires { ⌜ (2 * ran .held .used ≤ length (now numbers)) × (2 * ran .held .used ≤ length (now floats)) × (2 * ran .held .used ≤ length (now result)) ⌝ }
-    ensures { λ r. ⌜ Answered (concluded (fixedOf k) (now (spots .entry)) (now (directions .entry)) (cleaned (fixedOf k) (now (spots .entry)) (now (directions .entry)) 3 (ran .held .pose) (take (2 * ran .held .used) (now (numbers .entry)))) (ran .rounds) (ran .passes) (ran .queries)) (now (result .entry)) (now (result .exit)) r ⌝ }
+    requires { ⌜ (2 * ran .held .used ≤ length (now numbers)) × (2 * ran .held .used ≤ length (now floats))
+        × (2 * ran .held .used ≤ length (now result)) ⌝ }
+    ensures { λ r.
+        ⌜ Answered
+        (concluded (fixedOf k) (now (spots .entry)) (now (directions .entry))
+        (cleaned (fixedOf k) (now (spots .entry)) (now (directions .entry)) mostClips (ran .held .pose)
+        (take (2 * ran .held .used) (now (numbers .entry))))
+        (ran .rounds) (ran .passes) (ran .queries))
+        (now (result .entry)) (now (result .exit)) r ⌝ }
 {
     let held = ran.held;
     let pose = held.pose;

@@ -57,8 +57,16 @@ fn refined(
     indices: &mut [usize],
     result: &mut [usize],
 ) -> WcsRefineResult
-    requires { ⌜ refusal (called (now spots) (now matches) (now directions) rotation scale mirror radius limit rounds (lists (now numbers) (now floats) (now distances) (now indices) (now result))) ≡ 0 ⌝ }
-    ensures { λ r. ⌜ Answered (answer (called (now (spots .entry)) (now (matches .entry)) (now (directions .entry)) rotation scale mirror radius limit rounds (lists (now (numbers .entry)) (now (floats .entry)) (now (distances .entry)) (now (indices .entry)) (now (result .entry))))) (now (result .entry)) (now (result .exit)) r ⌝ }
+    requires { ⌜ refusal (called (now spots) (now matches) (now directions) rotation scale mirror radius limit rounds
+        (lists (now numbers) (now floats) (now distances) (now indices) (now result))) ≡ 0 ⌝ }
+    ensures { λ r.
+        ⌜ Answered
+        (answer
+        (called (now (spots .entry)) (now (matches .entry)) (now (directions .entry)) rotation scale mirror radius
+        limit rounds
+        (lists (now (numbers .entry)) (now (floats .entry)) (now (distances .entry)) (now (indices .entry))
+        (now (result .entry)))))
+        (now (result .entry)) (now (result .exit)) r ⌝ }
 {
     let room = spots.len() / 2 + matches.len() / 2 + directions.len() / 3;
     let k = settings_of(
@@ -108,7 +116,15 @@ pub fn wcs_refine(
     indices: &mut [usize],
     result: &mut [usize],
 ) -> WcsRefineResult
-    ensures { λ r. ⌜ Answers (called (now (spots .entry)) (now (matches .entry)) (now (directions .entry)) rotation scale mirror radius limit rounds (lists (now (numbers .entry)) (now (floats .entry)) (now (distances .entry)) (now (indices .entry)) (now (result .entry)))) r (lists (now (numbers .exit)) (now (floats .exit)) (now (distances .exit)) (now (indices .exit)) (now (result .exit))) ⌝ }
+    ensures { λ r.
+        ⌜ Answers
+        (called (now (spots .entry)) (now (matches .entry)) (now (directions .entry)) rotation scale mirror radius
+        limit rounds
+        (lists (now (numbers .entry)) (now (floats .entry)) (now (distances .entry)) (now (indices .entry))
+        (now (result .entry))))
+        r
+        (lists (now (numbers .exit)) (now (floats .exit)) (now (distances .exit)) (now (indices .exit))
+        (now (result .exit))) ⌝ }
 {
     let number = refusal_of(
         spots,

@@ -54,7 +54,9 @@ fn predict(
     floats: &mut [f64],
 ) -> usize
     requires { ⌜ (n ≤ room) × (16 * room ≤ length (now numbers)) × (16 * room ≤ length (now floats)) ⌝ }
-    ensures { λ r. ⌜ ToldTo k room n (now (directions .entry)) rows (now (numbers .entry)) (now (numbers .exit)) (now (floats .exit)) r ⌝ }
+    ensures { λ r.
+        ⌜ ToldTo k room n (now (directions .entry)) rows (now (numbers .entry)) (now (numbers .exit))
+        (now (floats .exit)) r ⌝ }
 {
     let r = prune_r(k);
     let from = 2 * room;
@@ -102,7 +104,9 @@ fn look_afresh(
     floats: &mut [f64],
 ) -> Looked
     requires { ⌜ Roomy k room (now directions) (now numbers) (now floats) × Fits k room held × (due k held ≡ true) ⌝ }
-    ensures { λ r. ⌜ LookedTo k room (now (directions .entry)) held (now (numbers .entry)) (now (numbers .exit)) (now (floats .exit)) r ⌝ }
+    ensures { λ r.
+        ⌜ LookedTo k room (now (directions .entry)) held (now (numbers .entry)) (now (numbers .exit))
+        (now (floats .exit)) r ⌝ }
 {
     let pose = held.pose;
     let n = list_cone(directions, k, room, pose, numbers);
@@ -122,7 +126,9 @@ fn look_again(
     floats: &mut [f64],
 ) -> Looked
     requires { ⌜ Roomy k room (now directions) (now numbers) (now floats) × Fits k room held × (due k held ≡ false) ⌝ }
-    ensures { λ r. ⌜ LookedTo k room (now (directions .entry)) held (now (numbers .entry)) (now (numbers .exit)) (now (floats .exit)) r ⌝ }
+    ensures { λ r.
+        ⌜ LookedTo k room (now (directions .entry)) held (now (numbers .entry)) (now (numbers .exit))
+        (now (floats .exit)) r ⌝ }
 {
     let pose = held.pose;
     let rows = camera_rows_f64(pose.theta, pose.ra, pose.dec);
@@ -140,7 +146,9 @@ pub(crate) fn look(
     floats: &mut [f64],
 ) -> Looked
     requires { ⌜ Roomy k room (now directions) (now numbers) (now floats) × Fits k room held ⌝ }
-    ensures { λ r. ⌜ LookedTo k room (now (directions .entry)) held (now (numbers .entry)) (now (numbers .exit)) (now (floats .exit)) r ⌝ }
+    ensures { λ r.
+        ⌜ LookedTo k room (now (directions .entry)) held (now (numbers .entry)) (now (numbers .exit))
+        (now (floats .exit)) r ⌝ }
 {
     if is_due(k, held) {
         return look_afresh(directions, k, room, held, numbers, floats);

@@ -20,8 +20,11 @@ pub(crate) fn predict_into(
     prune_r: f64,
     xy: &mut [f64],
 ) -> usize
-    requires { ⌜ ((from + n ≤ to) ⊎ (to + n ≤ from)) × (from + n ≤ length (now numbers)) × (to + n ≤ length (now numbers)) × (2 * n ≤ length (now xy)) ⌝ }
-    ensures { λ w. ⌜ Told (falling scale cut «prune_r» (now (directions .entry)) rows) from n to (now (numbers .entry)) (now (numbers .exit)) (now (xy .entry)) (now (xy .exit)) w ⌝ }
+    requires { ⌜ ((from + n ≤ to) ⊎ (to + n ≤ from)) × (from + n ≤ length (now numbers))
+        × (to + n ≤ length (now numbers)) × (2 * n ≤ length (now xy)) ⌝ }
+    ensures { λ w.
+        ⌜ Told (falling scale cut «prune_r» (now (directions .entry)) rows) from n to (now (numbers .entry))
+        (now (numbers .exit)) (now (xy .entry)) (now (xy .exit)) w ⌝ }
 {
     let inv = 1.0 / scale;
     let mut k: usize = 0;

@@ -28,8 +28,13 @@ pub(crate) fn renamed_into(
     t: usize,
     to: usize,
 )
-    requires { ⌜ (ids + count ≤ length (now numbers)) × (from + 2 * t ≤ length (now numbers)) × (to + 2 * t ≤ length (now numbers)) × ((ids + count ≤ to) ⊎ (to + 2 * t ≤ ids)) × ((from + 2 * t ≤ to) ⊎ (to + 2 * t ≤ from)) ⌝ }
-    ensures { λ _. ⌜ now (numbers .exit) ≡ take to (now (numbers .entry)) ++ renamedBy (slice ids (ids + count) (now (numbers .entry))) (slice from (from + 2 * t) (now (numbers .entry))) ++ drop (to + 2 * t) (now (numbers .entry)) ⌝ }
+    requires { ⌜ (ids + count ≤ length (now numbers)) × (from + 2 * t ≤ length (now numbers))
+        × (to + 2 * t ≤ length (now numbers)) × ((ids + count ≤ to) ⊎ (to + 2 * t ≤ ids))
+        × ((from + 2 * t ≤ to) ⊎ (to + 2 * t ≤ from)) ⌝ }
+    ensures { λ _.
+        ⌜ now (numbers .exit) ≡ take to (now (numbers .entry))
+        ++ renamedBy (slice ids (ids + count) (now (numbers .entry))) (slice from (from + 2 * t) (now (numbers .entry)))
+        ++ drop (to + 2 * t) (now (numbers .entry)) ⌝ }
 {
     let mut i: usize = 0;
     while i < t {

@@ -67,7 +67,11 @@ fn covariance(
     cut: f64,
     sum: f64,
 ) -> [[f64; 3]; 3]
-    ensures { λ r. ⌜ r ≡ covarianceOf (normalMatrix (viewOf pose cut) (rows (now (spots .entry)) (now (directions .entry)) (now (matches .entry)))) sum ⌝ }
+    ensures { λ r.
+        ⌜ r
+        ≡ covarianceOf
+        (normalMatrix (viewOf pose cut) (rows (now (spots .entry)) (now (directions .entry)) (now (matches .entry))))
+        sum ⌝ }
 {
     let m = normal_matrix(matches, directions, spots, pose, cut);
     let s = m.sums;
@@ -89,7 +93,11 @@ pub(crate) fn report(
     cut: f64,
 ) -> Numbers
     requires { ⌜ length (now matches) / 2 ≤ length (now floats) ⌝ }
-    ensures { λ r. ⌜ ((k : Fixed) → k .cut ≡ cut → k .scale ≡ scale → k .mirror ≡ mirror → reportOf r pose (now (matches .entry)) ≡ reported k pose (now (matches .entry)) (rows (now (spots .entry)) (now (directions .entry)) (now (matches .entry)))) ⌝ }
+    ensures { λ r.
+        ⌜ ((k : Fixed) → k .cut ≡ cut → k .scale ≡ scale → k .mirror ≡ mirror
+        → reportOf r pose (now (matches .entry))
+        ≡ reported k pose (now (matches .entry))
+        (rows (now (spots .entry)) (now (directions .entry)) (now (matches .entry)))) ⌝ }
 {
     let n = matches.len() / 2;
     let in_front = compute_residuals(matches, directions, spots, pose, cut, floats);

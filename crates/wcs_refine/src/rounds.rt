@@ -112,7 +112,9 @@ fn trim(
     k: Settings,
 ) -> Trimmed
     requires { ⌜ (length (now matches) % 2 ≡ 0) × (2 * (length (now matches) / 2) ≤ length (now floats)) ⌝ }
-    ensures { λ r. ⌜ TrimmedTo k (now (spots .entry)) (now (directions .entry)) pose (now (matches .entry)) (now (matches .exit)) r ⌝ }
+    ensures { λ r.
+        ⌜ TrimmedTo k (now (spots .entry)) (now (directions .entry)) pose (now (matches .entry)) (now (matches .exit))
+        r ⌝ }
 {
     let n = matches.len() / 2;
     let in_front = compute_residuals(matches, directions, spots, pose, k.cut, floats);
@@ -134,8 +136,11 @@ fn renew(
     distances: &mut [f64],
     indices: &mut [usize],
 ) -> Sought
-    requires { ⌜ Ready k room (now spots) (now directions) (now numbers) (now floats) (now distances) (now indices) × Fits k room held ⌝ }
-    ensures { λ s. ⌜ RestTo k room (now (spots .entry)) (now (directions .entry)) held (now (numbers .entry)) (now (numbers .exit)) s ⌝ }
+    requires { ⌜ Ready k room (now spots) (now directions) (now numbers) (now floats) (now distances) (now indices)
+        × Fits k room held ⌝ }
+    ensures { λ s.
+        ⌜ RestTo k room (now (spots .entry)) (now (directions .entry)) held (now (numbers .entry))
+        (now (numbers .exit)) s ⌝ }
 {
     let to = 2 * held.used;
     let pose = held.pose;
@@ -167,8 +172,11 @@ pub(crate) fn one_round(
     distances: &mut [f64],
     indices: &mut [usize],
 ) -> Rounded
-    requires { ⌜ Ready k room (now spots) (now directions) (now numbers) (now floats) (now distances) (now indices) × Fits k room held ⌝ }
-    ensures { λ s. ⌜ RoundTo k room (now (spots .entry)) (now (directions .entry)) held (now (numbers .entry)) (now (numbers .exit)) s ⌝ }
+    requires { ⌜ Ready k room (now spots) (now directions) (now numbers) (now floats) (now distances) (now indices)
+        × Fits k room held ⌝ }
+    ensures { λ s.
+        ⌜ RoundTo k room (now (spots .entry)) (now (directions .entry)) held (now (numbers .entry))
+        (now (numbers .exit)) s ⌝ }
 {
     let to = 2 * held.used;
     let pose = held.pose;
@@ -217,8 +225,11 @@ pub(crate) fn run(
     distances: &mut [f64],
     indices: &mut [usize],
 ) -> Ran
-    requires { ⌜ Ready k room (now spots) (now directions) (now numbers) (now floats) (now distances) (now indices) × Fits k room held × (rounds ≤ 64) ⌝ }
-    ensures { λ s. ⌜ RanTo k room (now (spots .entry)) (now (directions .entry)) rounds held (now (numbers .entry)) (now (numbers .exit)) s ⌝ }
+    requires { ⌜ Ready k room (now spots) (now directions) (now numbers) (now floats) (now distances) (now indices)
+        × Fits k room held × (rounds ≤ 64) ⌝ }
+    ensures { λ s.
+        ⌜ RanTo k room (now (spots .entry)) (now (directions .entry)) rounds held (now (numbers .entry))
+        (now (numbers .exit)) s ⌝ }
 {
     let mut h = held;
     let mut i: usize = 0;

@@ -25,8 +25,11 @@ pub(crate) fn search(
     distances: &mut [f64],
     indices: &mut [usize],
 ) -> Sought
-    requires { ⌜ Ready k room (now spots) (now directions) (now numbers) (now floats) (now distances) (now indices) × Fits k room held ⌝ }
-    ensures { λ s. ⌜ SearchedTo k room (now (spots .entry)) (now (directions .entry)) held r (now (numbers .entry)) (now (numbers .exit)) s ⌝ }
+    requires { ⌜ Ready k room (now spots) (now directions) (now numbers) (now floats) (now distances) (now indices)
+        × Fits k room held ⌝ }
+    ensures { λ s.
+        ⌜ SearchedTo k room (now (spots .entry)) (now (directions .entry)) held r (now (numbers .entry))
+        (now (numbers .exit)) s ⌝ }
 {
     let l = look(directions, k, room, held, numbers, floats);
     let kept = l.held;

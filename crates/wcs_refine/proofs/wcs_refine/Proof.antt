@@ -1,5 +1,5 @@
 -- `wcs_refine` meets its contract: the checks, the run, and the lists cleared. Assumes nothing.
-use mathlib.Core.Path.{_≡_, refl, sym, _∙_}
+use mathlib.Core.Path.{_≡_, sym, _∙_}
 use native.Mathlib.Omega.{arith}
 use lib.ListN.{length}
 use Rattle.entry.specs.Check.{refusal}

@@ -17,11 +17,11 @@ are-long-requires c κs = search needs
 
 returns-2 : tie.Need-returns-2
 unfolding namesRefused
-returns-2 c = rw (passed (c .before .before .before .are-named .ensures) (c .before .before .if1 .left), ← c .before .are-long .ensures, c .if2 .taken)
+returns-2 c = rw (passed (c .before .before .before .are-named .ensures) (c .before .before .if1 .left), failed (c .before .are-long .ensures) (c .if2 .taken))
 
 returns-3 : tie.Need-returns-3
 unfolding namesRefused
-returns-3 c = rw (passed (c .before .before .before .are-named .ensures) (c .before .before .if1 .left), ← c .before .are-long .ensures, c .if2 .left)
+returns-3 c = rw (passed (c .before .before .before .are-named .ensures) (c .before .before .if1 .left), passed (c .before .are-long .ensures) (c .if2 .left))
 
 pub names-spec : {M : Type 1} → statement M
 names-spec = tie.close (tie.spec are-named-requires returns are-long-requires returns-2 returns-3)
