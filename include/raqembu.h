@@ -1,7 +1,12 @@
 /* Raqembu: pose refinement for flat-panel X-ray detectors.
  *
- * Every list passes as a pointer to its first place and the number of its places. Lists do not overlap. Nothing is allocated, nothing is
- * kept between calls, no function has global state, and each answers after finitely many steps whatever the lists hold. size_t has 64 bits.
+ * Every list passes as a pointer to its first place and the number of its places. Lists do not overlap, and each has at most PTRDIFF_MAX bytes.
+ * Nothing is allocated, nothing is kept between calls, no function has global state, and each answers after finitely many steps whatever the
+ * lists hold. size_t has 64 bits. Every NaN that is answered or written has the bits 7FF8000000000000, and 7FC00000 in a float.
+ *
+ * Lists are of two kinds. Those that a call reads or works in keep what they held where it is refused, but for 12 and 13, as said below. Those
+ * that take the answer (counts, values, choices, measures, rotation of a record, out) are written in the places named by every call, also by one
+ * that is refused: they are zero then. Shorter ones take as much as they have places, and places after those named are never written.
  *
  * A refinement call is refused with one of these numbers, the first that applies:
  *    5  a flat list does not divide evenly: spots by 2, matches by 2, directions by 3
@@ -38,11 +43,11 @@ extern "C" {
  * scale: radians per pixel. mirror: the image is mirrored. radius: of matching, in radians. limit: only the first so many spots are matched.
  * numbers, floats: working lists. distances, indices: room for candidate pairs. result: takes the matches, spot then direction.
  * counts: 4 places for matches, rounds, fit passes, queries. values: 18 places for theta, RA, Dec, scale; the matrix by rows; the error (rms, in
- * radians); the covariance of theta and the two offsets of the boresight, by rows. Shorter lists take as many as they have places.
+ * radians); the covariance of theta and the two offsets of the boresight, by rows.
  *
- * Refused with 5 to 11, all lists are as they came. Refused with 12 or 13, `result` is as it came and the working and candidate lists are zero.
- * Accepted, `result` starts with the matches and is unchanged after them, and the working and candidate lists are zero. counts and values
- * are zero where the call is refused. */
+ * Refused with 5 to 11, numbers, floats, distances, indices and result are as they came. Refused with 12 or 13, result is as it came and the
+ * other four are zero from first place to last. Accepted, result starts with the matches and is unchanged after them, and the other four are
+ * zero. spots, matches, directions and rotation are only read. counts and values take the answer: refused, they are zero. */
 size_t raqembu_wcs_refine(
     const double *spots, size_t spots_len,
     const size_t *matches, size_t matches_len,
@@ -61,11 +66,10 @@ size_t raqembu_wcs_refine(
  *
  * bytes: the record. spots, matches, directions: take what the record holds, in the form that raqembu_wcs_refine takes, from their first place on.
  * choices: 6 places for the counts of spots, matches and directions, the mirror as 1 or 0, the matching limit, the rounds. measures: 2 places for
- * the scale and the radius, which as a float is the same number. rotation: 9 places for the entries, by rows. Shorter lists of these three take
- * as many as they have places.
+ * the scale and the radius, which as a float is the same number. rotation: 9 places for the entries, by rows.
  *
- * Refused, spots, matches and directions are as they came, and choices, measures and rotation are zero in the places named. Accepted, a list
- * longer than what is read is unchanged past it. The values themselves are not looked at here: 5 to 10 are for the refinement call. */
+ * Refused, spots, matches and directions are as they came. Accepted, they start with what is read and are unchanged past it. choices, measures
+ * and rotation take the answer: refused, they are zero. The values themselves are not looked at here: 5 to 10 are for the refinement call. */
 size_t raqembu_read_record(
     const uint8_t *bytes, size_t bytes_len,
     double *spots, size_t spots_len,
@@ -75,22 +79,25 @@ size_t raqembu_read_record(
     double *measures, size_t measures_len,
     float *rotation, size_t rotation_len);
 
-/* Matches spots with predictions (x, y of each), nearest pairs first, each at most once. Returns how many matches stand in `work` after its
- * marks, one mark for each spot within max_points and each prediction; RAQEMBU_TOO_MANY where there are more pairs than the candidate lists
- * hold; RAQEMBU_SHORT where `work` is too short, and then nothing is written. */
-#define RAQEMBU_TOO_MANY SIZE_MAX
-#define RAQEMBU_SHORT (SIZE_MAX - 1)
+/* Matches spots with predictions (x, y of each), nearest pairs first, each at most once. Returns 0, or the number of the refusal: 13 where there
+ * are more pairs than the candidate lists hold, 11 where `work` is too short for one mark for each spot within max_points and each prediction,
+ * and two places for each match that there may be.
+ *
+ * Accepted, the matches stand in work after its marks, which are zero, spot then prediction's place; the used places of distances and indices
+ * are zero. Refused with 13, work is as it came and the used places of the other two are zero; with 11, all three are as they came. counts takes
+ * the answer, 1 place for the number of matches: refused, it is zero. */
 size_t raqembu_greedy_unique_matches(
     const double *points, size_t points_len, size_t max_points,
     const double *predicted, size_t predicted_len, double radius_sq,
     double *distances, size_t distances_len,
     size_t *indices, size_t indices_len,
-    size_t *work, size_t work_len);
+    size_t *work, size_t work_len,
+    size_t *counts, size_t counts_len);
 
 /* Median and 1.4826 times the median absolute deviation, into the first two places of `out`. vals is left zero. */
 void raqembu_median_mad_sigma(double *vals, size_t vals_len, double *out, size_t out_len);
 
-/* Square root and narrowing to nearest, ties to even, as IEEE 754 has them. */
+/* Square root and narrowing to nearest, ties to even, as IEEE 754 has them. A NaN, and the root of a number below zero, gives the NaN above. */
 double raqembu_sqrt64(double x);
 float raqembu_sqrt32(float x);
 float raqembu_narrow(double x);

@@ -10,6 +10,7 @@ extern "C" {
     fn raqembu_greedy_unique_matches(
         points: *const f64, points_len: usize, max_points: usize, predicted: *const f64, predicted_len: usize, radius_sq: f64,
         distances: *mut f64, distances_len: usize, indices: *mut usize, indices_len: usize, work: *mut usize, work_len: usize,
+        counts: *mut usize, counts_len: usize,
     ) -> usize;
 }
 
@@ -33,14 +34,18 @@ impl Lent {
     }
 }
 
+/// How many matches; none is refused, since the lists are long enough.
 fn matches_here(points: &[f64], predicted: &[f64], radius_sq: f64, lent: &mut Lent) -> usize {
-    unsafe {
+    let mut count = [0];
+    let refusal = unsafe {
         raqembu_greedy_unique_matches(
             points.as_ptr(), points.len(), usize::MAX, predicted.as_ptr(), predicted.len(), radius_sq,
             lent.distances.as_mut_ptr(), lent.distances.len(), lent.indices.as_mut_ptr(), lent.indices.len(),
-            lent.work.as_mut_ptr(), lent.work.len(),
+            lent.work.as_mut_ptr(), lent.work.len(), count.as_mut_ptr(), count.len(),
         )
-    }
+    };
+    assert_eq!(refusal, 0);
+    count[0]
 }
 
 /// xorshift64, from a fixed seed.

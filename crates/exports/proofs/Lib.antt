@@ -1,2 +1,3 @@
 pub mod Exported
 pub mod Reader
+pub mod Agreeing

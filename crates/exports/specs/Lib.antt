@@ -1,3 +1,4 @@
-pub mod Codes
+pub mod Parts
 pub mod Refined
 pub mod Taken
+pub mod Unseen

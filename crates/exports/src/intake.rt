@@ -8,17 +8,10 @@ ghost use lib.Ieee.{nan};
 ghost use Rattle.record.specs.Header.{readRecord};
 ghost use Rattle.exports.specs.Refined.{setFrom};
 ghost use Rattle.exports.specs.Taken.{choices, measures, entries, TakenTo};
-use lists::put_float;
+use crate::places::put_double;
+use crate::places::put_single;
 use lists::put_number;
 use record::Header;
-
-fn put_single(l: &mut [f32], i: usize, x: f32)
-    ensures { λ _. ⌜ now (l .exit) ≡ set (now (l .entry)) i x ⌝ }
-{
-    if i < l.len() {
-        l[i] = x;
-    }
-}
 
 // Three entries of the rotation.
 fn put_row(l: &mut [f32], i: usize, j: usize, k: usize, v: [f32; 3])
@@ -51,8 +44,8 @@ fn put_choices(l: &mut [usize], h: Header)
 fn put_measures(l: &mut [f64], h: Header)
     ensures { λ _. ⌜ now (l .exit) ≡ setFrom 0 (measures h) (now (l .entry)) ⌝ }
 {
-    put_float(l, 0, h.scale);
-    put_float(l, 1, rounding::widen(h.radius));
+    put_double(l, 0, h.scale);
+    put_double(l, 1, rounding::widen(h.radius));
 }
 
 fn put_rotation(l: &mut [f32], h: Header)

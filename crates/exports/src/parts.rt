@@ -4,8 +4,10 @@ ghost use lib.ListN.{length, replicate};
 ghost use Rattle.rounding.specs.Arith.{zero64};
 ghost use Rattle.stats.specs.Median.{medianMadSigma};
 ghost use Rattle.matching.specs.Greedy.{greedyUniqueMatches};
-ghost use Rattle.exports.specs.Codes.{Called, matchCode, twoPlaces};
-use lists::put_float;
+ghost use Rattle.matching.specs.Answer.{numberOf, countOf};
+ghost use Rattle.exports.specs.Parts.{MatchedTo, twoPlaces};
+use crate::places::put_double;
+use lists::put_number;
 use matching::Matched;
 
 // Median and sigma go to the first two places of `out`, as far as it has them. The values are left zero.
@@ -14,11 +16,12 @@ pub extern "C" fn raqembu_median_mad_sigma(vals: &mut [f64], out: &mut [f64])
     ensures { λ _. ⌜ (now (vals .exit) ≡ replicate (length (now (vals .entry))) zero64) × (now (out .exit) ≡ twoPlaces (now (out .entry)) (medianMadSigma (now (vals .entry)))) ⌝ }
 {
     let s = stats::median_mad_sigma(vals);
-    put_float(out, 0, s.median);
-    put_float(out, 1, s.sigma);
+    put_double(out, 0, s.median);
+    put_double(out, 1, s.sigma);
 }
 
-// How many matches stand in `work` after its marks, or one of two large numbers.
+// 0, or the number of the refusal: 13, more pairs than the candidate lists hold, or 11, too short a `work`. How many matches stand in `work` after
+// its marks goes to the first place of `counts`, as far as it has one.
 #[no_mangle]
 pub extern "C" fn raqembu_greedy_unique_matches(
     points: &[f64],
@@ -28,10 +31,14 @@ pub extern "C" fn raqembu_greedy_unique_matches(
     distances: &mut [f64],
     indices: &mut [usize],
     work: &mut [usize],
+    counts: &mut [usize],
 ) -> usize
-    ensures { λ r. ⌜ Called r (now (distances .exit)) (now (indices .exit)) (now (work .exit)) (greedyUniqueMatches (now (points .entry)) «max_points» (now (predicted .entry)) «radius_sq» (now (distances .entry)) (now (indices .entry)) (now (work .entry))) ⌝ }
+    ensures { λ r. ⌜ MatchedTo
+        (greedyUniqueMatches (now (points .entry)) «max_points» (now (predicted .entry)) «radius_sq»
+        (now (distances .entry)) (now (indices .entry)) (now (work .entry)))
+        r (now (distances .exit)) (now (indices .exit)) (now (work .exit)) (now (counts .entry)) (now (counts .exit)) ⌝ }
 {
-    code(matching::greedy_unique_matches(
+    let m = matching::greedy_unique_matches(
         points,
         max_points,
         predicted,
@@ -39,15 +46,27 @@ pub extern "C" fn raqembu_greedy_unique_matches(
         distances,
         indices,
         work,
-    ))
+    );
+    put_number(counts, 0, count(m));
+    number(m)
 }
 
-fn code(m: Matched) -> usize
-    ensures { λ r. ⌜ r ≡ matchCode m ⌝ }
+fn number(m: Matched) -> usize
+    ensures { λ r. ⌜ r ≡ numberOf m ⌝ }
+{
+    match m {
+        Matched::Matches(_) => 0,
+        Matched::TooMany => 13,
+        Matched::Short => 11,
+    }
+}
+
+fn count(m: Matched) -> usize
+    ensures { λ r. ⌜ r ≡ countOf m ⌝ }
 {
     match m {
         Matched::Matches(n) => n,
-        Matched::TooMany => 0xFFFF_FFFF_FFFF_FFFF,
-        Matched::Short => 0xFFFF_FFFF_FFFF_FFFE,
+        Matched::TooMany => 0,
+        Matched::Short => 0,
     }
 }

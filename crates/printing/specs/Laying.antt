@@ -11,6 +11,7 @@ pub record Laid : Type 0 where
   pub at : ℕ
   pub bytes : List ℕ
 
+-- The two together.
 abbrev pub laid : ℕ → List ℕ → Laid
 laid i l = record { at = i; bytes = l }
 
@@ -18,6 +19,7 @@ laid i l = record { at = i; bytes = l }
 unfoldable pub put : ℕ → Laid → Laid
 put b s = cond (ltb (s .at) (length (s .bytes))) (laid (s .at + 1) (set (s .bytes) (s .at) b)) s
 
+-- A text, byte after byte.
 unfoldable pub pushed : List ℕ → Laid → Laid
 unfolding put
 pushed [] s = s

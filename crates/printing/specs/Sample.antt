@@ -23,6 +23,7 @@ tick = f64 0x3F50000000000000
 abbrev pub endless : Float
 endless = f64 0x7FF0000000000000
 
+-- What the call on 01's sample record answers: no spots, matches or directions, so the start pose is handed back.
 abbrev pub sampleAnswer : WcsRefineResult
 sampleAnswer = record {
   refusal = 0;
@@ -39,6 +40,7 @@ sampleAnswer = record {
   cov2 = zero64 ∷ zero64 ∷ endless ∷ [];
 }
 
+-- 01's five lines.
 pub sample-text : answerText sampleAnswer [] ≡
     bytesOf "ok 0 0 0 0\n"
     ++ bytesOf "pose 0000000000000000 0000000000000000 0000000000000000 3F50000000000000\n"
@@ -55,6 +57,7 @@ pub refused-text : refusedText 13 ≡ bytesOf "no 13\n"
 unfolding refusedText bytesOf
 refused-text = refl
 
+-- "Then a line `m`, spot, direction for each match."
 pub matches-text : matchLines (0 ∷ 65535 ∷ 4095 ∷ 10 ∷ []) ≡ bytesOf "m 0 65535\nm 4095 10\n"
 unfolding matchLines bytesOf
 matches-text = refl

@@ -15,6 +15,7 @@ unfoldable pub decimalFrom : ℕ → ℕ → List ℕ → List ℕ
 decimalFrom zero n after = (48 + n % 10) ∷ after
 decimalFrom (suc k) n after = cond (ltb n 10) ((48 + n) ∷ after) (decimalFrom k (n / 10) ((48 + n % 10) ∷ after))
 
+-- A number in decimal.
 unfoldable pub decimal : ℕ → List ℕ
 unfolding decimalFrom
 decimal n = decimalFrom 19 n []
@@ -36,6 +37,7 @@ bitsText x = hexFrom 16 (toBits binary64 x) []
 
 -- ---- lines
 
+-- The bytes between fields and at the end of a line.
 abbrev pub space : ℕ
 space = 32
 
@@ -48,6 +50,7 @@ unfolding decimal
 counts [] = []
 counts (n ∷ ns) = space ∷ decimal n ++ counts ns
 
+-- The same of floats.
 unfoldable pub floats : List Float → List ℕ
 unfolding bitsText
 floats [] = []

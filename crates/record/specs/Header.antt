@@ -64,6 +64,7 @@ pub record Intake : Type 0 where
   pub matches : List ℕ
   pub directions : List Float
 
+-- The four together, in the order of the code.
 abbrev pub intake : Header → List Float → List ℕ → List Float → Intake
 intake h spots matches directions = record { header = h; spots = spots; matches = matches; directions = directions }
 
@@ -72,6 +73,7 @@ abbrev pub room : Exposure → List Float → List ℕ → List Float → Bool
 room e spots matches directions =
     leb (length (e .spots)) (length spots) && leb (length (e .matches)) (length matches) && leb (length (e .directions)) (length directions)
 
+-- What was read, taken into the lists: a refusal leaves them as they came.
 unfoldable pub taken : Read → List Float → List ℕ → List Float → Intake
 unfolding refusedHeader headerOf floatsOf
 taken (refused n) spots matches directions = intake (refusedHeader n) spots matches directions

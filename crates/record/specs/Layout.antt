@@ -17,13 +17,16 @@ pub record Exposure : Type 0 where
   pub matches : List ℕ
   pub directions : List ℕ
 
+-- A number, and how many bits it may have.
 pub record Field : Type 0 where
   pub bits : ℕ
   pub value : ℕ
 
+-- The two together.
 abbrev pub field : ℕ → ℕ → Field
 field b v = record { bits = b; value = v }
 
+-- A run of numbers of the same bits.
 unfoldable pub each : ℕ → List ℕ → List Field
 each b [] = []
 each b (v ∷ vs) = field b v ∷ each b vs
@@ -37,6 +40,7 @@ fields e =
     ∷ field 1 (e .mirror) ∷ field 64 (e .scale) ∷ field 32 (e .radius) ∷ field 32 (e .limit) ∷ field 32 (e .rounds)
     ∷ each 32 (e .rotation) ++ each 64 (e .spots) ++ each 32 (e .matches) ++ each 32 (e .directions)
 
+-- Each number in its shortest form, one after another.
 unfoldable pub writtenFields : List Field → List ℕ
 unfolding written
 writtenFields [] = []
@@ -49,10 +53,12 @@ recordOf e = writtenFields (fields e)
 
 -- ---- which exposures have a record
 
+-- Refusal 3 turned round: no number exceeds its field.
 abbrev pub AllFit : List Field → Type 0
 AllFit [] = Unit {0}
 AllFit (f ∷ fs) = (f .value < 2 ^ f .bits) × AllFit fs
 
+-- Nine entries of a rotation, two numbers for each spot and match, three for each direction, and every number within its field.
 pub record Whole (e : Exposure) : Type 0 where
   pub rotation : length (e .rotation) ≡ 9
   pub spots : length (e .spots) % 2 ≡ 0

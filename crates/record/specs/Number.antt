@@ -13,6 +13,7 @@ unfoldable pub groups : ℕ → ℕ → List ℕ
 groups zero n = n ∷ []
 groups (suc k) n = cond (ltb n 128) (n ∷ []) ((128 + n % 128) ∷ groups k (n / 128))
 
+-- A number as a record has it.
 unfoldable pub written : ℕ → List ℕ
 unfolding groups
 written n = groups 9 n

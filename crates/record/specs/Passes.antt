@@ -29,6 +29,7 @@ answered (suc n) x = fault (suc n)
 abbrev pub Fit : List ℕ → List ℕ → Type 0
 Fit bits vs = (i : ℕ) → i < length bits → getD vs i 0 < 2 ^ getD bits i 0
 
+-- What the first numbers come to: their refusal, or they and the place after them.
 abbrev pub headOf : List ℕ → Head → Type 0
 headOf bytes r = numbers headBits bytes ≡ answered (r .refusal) (values (r .numbers) (drop (r .to) bytes))
 
@@ -37,6 +38,7 @@ pub record Over (x : Values) (bytes : List ℕ) (r : Passed) : Type 0 where
   pub passed : List ℕ
   pub is : x ≡ answered (r .refusal) (values passed (drop (r .to) bytes))
 
+-- What a record holds, by its first numbers and its three lists.
 abbrev pub exposure : List ℕ → List ℕ → List ℕ → List ℕ → Exposure
 exposure h spots matches directions = record {
   mirror = place h 3;
@@ -74,6 +76,7 @@ pub record Lawful (bytes : List ℕ) (r : Found) : Type 0 where
   pub directionsAt : Standing (3 * place (r .numbers) 2) 32 bytes (r .directions) directions
   pub is : reading bytes ≡ whole (exposure (r .numbers) spots matches directions)
 
+-- What the first pass hands on: the number of the refusal, or a lawful record's numbers and places.
 pub record FoundIn (bytes : List ℕ) (r : Found) : Type 0 where
   pub refusal : 0 < r .refusal → reading bytes ≡ refused (r .refusal)
   pub lawful : r .refusal ≡ 0 → Lawful bytes r

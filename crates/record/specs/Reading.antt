@@ -14,6 +14,7 @@ pub data Values : Type 0 where
   values : List ℕ → List ℕ → Values
   fault : ℕ → Values
 
+-- What follows numbers that were read; a fault stays.
 unfoldable pub onward : Values → (List ℕ → List ℕ → Values) → Values
 onward (values vs rest) f = f vs rest
 onward (fault n) f = fault n
@@ -40,10 +41,12 @@ run (suc k) b bytes = following bytes (number b bytes) (λ v rest. onward (run k
 abbrev pub headBits : List ℕ
 headBits = 32 ∷ 32 ∷ 32 ∷ 1 ∷ 64 ∷ 32 ∷ 32 ∷ 32 ∷ replicate 9 32
 
+-- A record read: refused with a number, or what it holds.
 pub data Read : Type 0 where
   refused : ℕ → Read
   whole : Exposure → Read
 
+-- A number of the head, by its place from 0.
 abbrev pub place : List ℕ → ℕ → ℕ
 place h i = getD h i 0
 
@@ -52,6 +55,7 @@ unfoldable pub closed : Exposure → List ℕ → Read
 closed e [] = whole e
 closed e (b ∷ bs) = refused 4
 
+-- What follows numbers that were read; a fault is the record's refusal.
 unfoldable pub then : Values → (List ℕ → List ℕ → Read) → Read
 then (values vs rest) f = f vs rest
 then (fault n) f = refused n
@@ -75,7 +79,11 @@ body h bytes =
       directions = directions;
     }) rest)))
 
+-- 1: "The record is longer than 65,536 bytes."
+abbrev pub mostBytes : ℕ
+mostBytes = 65536
+
 -- "The record is longer than 65,536 bytes" comes first; of 2 and 3 the first fault along the record counts.
 unfoldable pub reading : List ℕ → Read
 unfolding numbers then body
-reading bytes = cond (ltb 65536 (length bytes)) (refused 1) (then (numbers headBits bytes) (λ h rest. body h rest))
+reading bytes = cond (ltb mostBytes (length bytes)) (refused 1) (then (numbers headBits bytes) (λ h rest. body h rest))

@@ -2,11 +2,13 @@
 ghost use mathlib.Core.Path.{_≡_};
 ghost use Prim.Native.Nat.{_^_, _<_};
 ghost use mathlib.Core.List.{[], _∷_};
-ghost use lib.Ieee.{binary32, ofBits};
+ghost use lib.Ieee.{binary32, binary64, ofBits};
 ghost use Rattle.record.specs.Reading.{headBits};
 ghost use Rattle.record.specs.Header.{refusedHeader};
 ghost use Rattle.record.specs.Passes.{Fit, headerFrom};
 use crate::Header;
+use rounding::canonical32;
+use rounding::canonical64;
 use rounding::from_bits32;
 use rounding::from_bits64;
 
@@ -30,12 +32,19 @@ pub(crate) fn refused(refusal: usize) -> Header
     }
 }
 
-// A float by its bits, which are known to be 32.
-fn single(n: u64) -> f32
+// A float by its bits, which are known to be 32. Every NaN pattern becomes the same one, here and in `double`.
+pub(crate) fn single(n: u64) -> f32
     requires { ⌜ n < 2 ^ 32 ⌝ }
     ensures { λ r. ⌜ r ≡ ofBits binary32 n ⌝ }
 {
-    from_bits32(n as u32)
+    canonical32(from_bits32(n as u32))
+}
+
+// A float by its 64 bits.
+pub(crate) fn double(n: u64) -> f64
+    ensures { λ r. ⌜ r ≡ ofBits binary64 n ⌝ }
+{
+    canonical64(from_bits64(n))
 }
 
 // A row of the rotation.
@@ -60,7 +69,7 @@ pub(crate) fn accepted(h: &[u64; 17]) -> Header
         matches: h[1] as usize,
         directions: h[2] as usize,
         mirror: h[3] == 1,
-        scale: from_bits64(h[4]),
+        scale: double(h[4]),
         radius: single(h[5]),
         limit: h[6] as usize,
         rounds: h[7] as usize,

@@ -10,6 +10,8 @@ ghost use Rattle.record.specs.Passes.{Greatest, Over, Standing};
 use crate::Numbered;
 use crate::numbers::known_at;
 use crate::numbers::number_to;
+use crate::reports::double;
+use crate::reports::single;
 
 // The place after a run, or a refusal.
 pub(crate) struct Passed {
@@ -50,7 +52,7 @@ pub(crate) fn fill_doubles(bytes: &[u8], at: usize, list: &mut [f64])
     let mut i: usize = 0;
     while i < list.len() {
         let r = known_at(bytes, to);
-        list[i] = rounding::from_bits64(r.value);
+        list[i] = double(r.value);
         to = r.to;
         i += 1;
     }
@@ -65,7 +67,7 @@ pub(crate) fn fill_singles(bytes: &[u8], at: usize, list: &mut [f32])
     let mut i: usize = 0;
     while i < list.len() {
         let r = known_at(bytes, to);
-        list[i] = rounding::from_bits32(r.value as u32);
+        list[i] = single(r.value);
         to = r.to;
         i += 1;
     }

@@ -1,2 +1,4 @@
 pub mod Fronts
 pub mod Responses
+pub mod Agreeing
+pub mod Programs

@@ -46,9 +46,7 @@ module _ (bytes : List ℕ) (ss : List Float) (ms : List ℕ) (ds : List Float) 
       (subst (λ (b : Bool). Printed (cond b (turnedAway i lent) (answerTo i lent)) n before after (i .spots) (i .matches) (i .directions) left) (sym (le-ltb 0 (i .header .refusal) h)) p)
 
 -- So many bytes are within the list that holds the text.
-pub counted : {r : Response} {n : ℕ} {before after : List ℕ} {ss : List Float} {ms : List ℕ} {ds : List Float} {lent : Lent}
-    → Printed r n before after ss ms ds lent → length after ≡ length before → n ≡ length (take n after)
-counted {n = n} {before = before} {after = after} p kept =
-    let e = p .count in
+pub counted : (n k : ℕ) (before after : List ℕ) → n ≡ min k (length before) → length after ≡ length before → n ≡ length (take n after)
+counted n k before after e kept =
     let w : n ≤ length after = omega (arith, e, kept) in
     sym (length-take-le n after w)

@@ -1,3 +1,5 @@
 pub mod Response
 pub mod Printed
 pub mod Lawful
+pub mod Program
+pub mod Unseen

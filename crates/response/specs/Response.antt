@@ -41,6 +41,7 @@ asked i lent =
 abbrev pub reportedBy : Returned → List ℕ
 reportedBy o = take (2 * o .result .matches) (o .lent .result)
 
+-- A call's answer as a text, with the lists as the record filled them and the call left them.
 unfoldable pub answered : Intake → Returned → Response
 answered i o = record {
   text = answerText (o .result) (reportedBy o);
@@ -60,6 +61,7 @@ turnedAway i lent = record {
   lent = lent;
 }
 
+-- 01: "a record free of 1 to 4 that counts more prints `no 11` without a call"; so does any refused record with its number. Otherwise the call answers.
 unfoldable pub response : Intake → Lent → Response
 unfolding turnedAway answered
 response i lent = cond (ltb 0 (i .header .refusal)) (turnedAway i lent) (answered i (returned (outcome (asked i lent))))

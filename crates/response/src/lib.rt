@@ -9,8 +9,13 @@ ghost use Rattle.wcs_refine.specs.Returned.{lists, called, Answers};
 ghost use Rattle.response.specs.Response.{asked, responseTo};
 ghost use Rattle.response.specs.Lawful.{answerTo};
 ghost use Rattle.response.specs.Printed.{Printed};
+
+mod program; // program.rt: the lists of the program `refine`
+
 use printing::print_answer;
 use printing::print_refusal;
+pub use program::record_room;
+pub use program::respond_alone;
 use record::Header;
 use record::read_record;
 use wcs_refine::WcsRefineResult;

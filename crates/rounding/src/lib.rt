@@ -5,12 +5,15 @@ mod pattern; // pattern.rt: bit patterns, and the one rounding step
 mod root; // root.rt: the square root
 mod narrowing; // narrowing.rt: between f64 and f32
 mod bits; // bits.rt: from and to bit patterns
+mod canonical; // canonical.rt: the one NaN's pattern
 mod methods; // methods.rt: Rust's methods of f64
 
 pub use bits::from_bits32;
 pub use bits::from_bits64;
 pub use bits::to_bits32;
 pub use bits::to_bits64;
+pub use canonical::canonical32;
+pub use canonical::canonical64;
 pub use methods::Order;
 pub use methods::abs;
 pub use methods::clamp;

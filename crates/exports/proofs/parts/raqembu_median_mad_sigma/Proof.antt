@@ -6,11 +6,11 @@ use Rattle.exports.proofs.parts.raqembu_median_mad_sigma.Tie as tie
 median-mad-sigma-requires : tie.Need-median-mad-sigma-requires
 median-mad-sigma-requires c κs = search needs
 
-put-float-requires : tie.Need-put-float-requires
-put-float-requires c κs = search needs
+put-double-requires : tie.Need-put-double-requires
+put-double-requires c κs = search needs
 
-put-float-requires-2 : tie.Need-put-float-requires-2
-put-float-requires-2 c κs = search needs
+put-double-requires-2 : tie.Need-put-double-requires-2
+put-double-requires-2 c κs = search needs
 
 same-length : tie.Need-same-length
 same-length c = search needs
@@ -21,15 +21,15 @@ same-length-2 c = search needs
 returns : tie.Need-returns
 returns c =
     let m = c .before .before .before .before .before .before .before .before .before .before .median-mad-sigma .ensures in
-    (m .scratch, rw (c .before .before .put-float2 .ensures, c .before .before .before .before .before .before .put-float .ensures, m .result))
+    (m .scratch, rw (c .before .before .put-double2 .ensures, c .before .before .before .before .before .before .put-double .ensures, m .result))
 
 pub raqembu-median-mad-sigma-spec : {M : Type 1} → statement M
 raqembu-median-mad-sigma-spec =
     tie.close
     (tie.spec
     median-mad-sigma-requires
-    put-float-requires
-    put-float-requires-2
+    put-double-requires
+    put-double-requires-2
     same-length
     same-length-2
     returns)

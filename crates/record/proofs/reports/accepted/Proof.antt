@@ -59,11 +59,11 @@ element-copy-out-t10 c = search needs
 element-copy-out-t37 : tie.Need-element-copy-out-t37
 element-copy-out-t37 c = search needs
 
-element-copy-out-from-bits64 : tie.Need-element-copy-out-from-bits64
-element-copy-out-from-bits64 c = search needs
+element-copy-out-double : tie.Need-element-copy-out-double
+element-copy-out-double c = search needs
 
-from-bits64-requires : tie.Need-from-bits64-requires
-from-bits64-requires c κs = search needs
+double-requires : tie.Need-double-requires
+double-requires c κs = search needs
 
 element-copy-out-single : tie.Need-element-copy-out-single
 element-copy-out-single c = search needs
@@ -79,7 +79,7 @@ element-copy-out-t53 c = search needs
 
 returns : tie.Need-returns
 returns c =
-    made (c .before .before .before .before .before .before .before .before .before .before .before .before .before .before .before .before .before .before .before .before .before .before .args .h .now) (c .before .before .before .before .from-bits64 .ensures) (c .before .before .single .ensures) (c .before .before .before .before .before .before .before .before .before .before .before .before .before .before .before .before .before .before .row .ensures) (c .before .before .before .before .before .before .before .before .before .before .before .before .before .before .row2 .ensures) (c .before .before .before .before .before .before .before .before .before .before .row3 .ensures)
+    made (c .before .before .before .before .before .before .before .before .before .before .before .before .before .before .before .before .before .before .before .before .before .before .args .h .now) (c .before .before .before .before .double .ensures) (c .before .before .single .ensures) (c .before .before .before .before .before .before .before .before .before .before .before .before .before .before .before .before .before .before .row .ensures) (c .before .before .before .before .before .before .before .before .before .before .before .before .before .before .row2 .ensures) (c .before .before .before .before .before .before .before .before .before .before .row3 .ensures)
 
 pub accepted-spec : {M : Type 1} → statement M
 accepted-spec =
@@ -101,8 +101,8 @@ accepted-spec =
     element-copy-out-t13
     element-copy-out-t10
     element-copy-out-t37
-    element-copy-out-from-bits64
-    from-bits64-requires
+    element-copy-out-double
+    double-requires
     element-copy-out-single
     single-requires
     element-copy-out-t49

@@ -1,4 +1,4 @@
--- `record::lists::fill_doubles` meets its contract. The invariant: the first places of the list hold the numbers read so far. Assumes nothing.
+-- `record::runs::fill_doubles` meets its contract. The invariant: the first places of the list hold the numbers read so far. Assumes nothing.
 use mathlib.Core.Path.{sym, _∙_}
 use Prim.Native.Nat.{_-_}
 use native.Mathlib.Omega.{arith}
@@ -25,8 +25,8 @@ known-at-requires c κs =
     let h = c .loop-test .taken in
     filling-lies (ofBits binary64) 64 (s .args .bytes .now) (s .args .at) (l .to) (l .i) (s .args .list .now) (l .list) (l .inv) h (s .pre .0) (s .pre .1) (omega arith)
 
-from-bits64-requires : tie.Need-from-bits64-requires Inv-loop μ-loop
-from-bits64-requires c κs = search needs
+double-requires : tie.Need-double-requires Inv-loop μ-loop
+double-requires c κs = search needs
 
 mul-list : tie.Need-mul-list Inv-loop μ-loop
 mul-list c = search needs
@@ -49,7 +49,7 @@ loop-again c =
     let l = c .before .before .before .loop in
     let h = c .before .before .loop-test .taken in
     let r = c .before .known-at in
-    filling-on (ofBits binary64) 64 (s .args .bytes .now) (s .args .at) (l .to) (l .i) (s .args .list .now) (l .list) (l .inv) h (s .pre .0) (s .pre .1) (r .result .value) (r .result .to) (r .ensures) (c .from-bits64 .result) (c .from-bits64 .ensures)
+    filling-on (ofBits binary64) 64 (s .args .bytes .now) (s .args .at) (l .to) (l .i) (s .args .list .now) (l .list) (l .inv) h (s .pre .0) (s .pre .1) (r .result .value) (r .result .to) (r .ensures) (c .double .result) (c .double .ensures)
 
 same-length : tie.Need-same-length Inv-loop μ-loop
 same-length c =
@@ -71,7 +71,7 @@ fill-doubles-spec =
     μ-loop
     loop-holds
     known-at-requires
-    from-bits64-requires
+    double-requires
     mul-list
     slice-write-list
     add-i

@@ -1,4 +1,4 @@
--- `record::lists::fill_singles` meets its contract. The invariant: the first places of the list hold the numbers read so far. Assumes nothing.
+-- `record::runs::fill_singles` meets its contract. The invariant: the first places of the list hold the numbers read so far. Assumes nothing.
 use mathlib.Core.Path.{sym, _∙_}
 use Prim.Native.Nat.{_-_}
 use native.Mathlib.Omega.{arith}
@@ -25,16 +25,13 @@ known-at-requires c κs =
     let h = c .loop-test .taken in
     filling-lies (ofBits binary32) 32 (s .args .bytes .now) (s .args .at) (l .to) (l .i) (s .args .list .now) (l .list) (l .inv) h (s .pre .0) (s .pre .1) (omega arith)
 
-cast-from-bits32 : tie.Need-cast-from-bits32 Inv-loop μ-loop
-cast-from-bits32 c =
-    let s = c .before .before .before .before .before .before in
-    let l = c .before .before .before .loop in
-    let h = c .before .before .loop-test .taken in
-    let r = c .before .known-at in
-    omega (arith, filling-small (ofBits binary32) 32 (s .args .bytes .now) (s .args .at) (l .to) (l .i) (s .args .list .now) (l .list) (l .inv) h (s .pre .0) (s .pre .1) (r .result .value) (r .result .to) (r .ensures))
-
-from-bits32-requires : tie.Need-from-bits32-requires Inv-loop μ-loop
-from-bits32-requires c κs = search needs
+single-requires : tie.Need-single-requires Inv-loop μ-loop
+single-requires c κs =
+    let s = c .before .before .before .before .before in
+    let l = c .before .before .loop in
+    let h = c .before .loop-test .taken in
+    let r = c .known-at in
+    filling-small (ofBits binary32) 32 (s .args .bytes .now) (s .args .at) (l .to) (l .i) (s .args .list .now) (l .list) (l .inv) h (s .pre .0) (s .pre .1) (r .result .value) (r .result .to) (r .ensures)
 
 mul-list : tie.Need-mul-list Inv-loop μ-loop
 mul-list c = search needs
@@ -47,17 +44,17 @@ add-i c = search needs
 
 loop-less : tie.Need-loop-less Inv-loop μ-loop
 loop-less c =
-    let s = c .before .before .before .before .before .before .before in
-    let l = c .before .before .before .before .loop in
+    let s = c .before .before .before .before .before .before in
+    let l = c .before .before .before .loop in
     omega (arith, filling-length (ofBits binary32) 32 (s .args .bytes .now) (s .args .at) (l .to) (l .i) (s .args .list .now) (l .list) (l .inv))
 
 loop-again : tie.Need-loop-again Inv-loop μ-loop
 loop-again c =
-    let s = c .before .before .before .before .before .before .before in
-    let l = c .before .before .before .before .loop in
-    let h = c .before .before .before .loop-test .taken in
-    let r = c .before .before .known-at in
-    filling-on (ofBits binary32) 32 (s .args .bytes .now) (s .args .at) (l .to) (l .i) (s .args .list .now) (l .list) (l .inv) h (s .pre .0) (s .pre .1) (r .result .value) (r .result .to) (r .ensures) (c .from-bits32 .result) (c .from-bits32 .ensures)
+    let s = c .before .before .before .before .before .before in
+    let l = c .before .before .before .loop in
+    let h = c .before .before .loop-test .taken in
+    let r = c .before .known-at in
+    filling-on (ofBits binary32) 32 (s .args .bytes .now) (s .args .at) (l .to) (l .i) (s .args .list .now) (l .list) (l .inv) h (s .pre .0) (s .pre .1) (r .result .value) (r .result .to) (r .ensures) (c .single .result) (c .single .ensures)
 
 same-length : tie.Need-same-length Inv-loop μ-loop
 same-length c =
@@ -79,8 +76,7 @@ fill-singles-spec =
     μ-loop
     loop-holds
     known-at-requires
-    cast-from-bits32
-    from-bits32-requires
+    single-requires
     mul-list
     slice-write-list
     add-i
