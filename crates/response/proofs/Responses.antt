@@ -45,8 +45,8 @@ module _ (bytes : List ℕ) (ss : List Float) (ms : List ℕ) (ds : List Float) 
       subst (λ (x : Intake). Printed (response x lent) n before after (i .spots) (i .matches) (i .directions) left) read
       (subst (λ (b : Bool). Printed (cond b (turnedAway i lent) (answerTo i lent)) n before after (i .spots) (i .matches) (i .directions) left) (sym (le-ltb 0 (i .header .refusal) h)) p)
 
--- So many bytes are within the list that holds the text.
-pub counted : (n k : ℕ) (before after : List ℕ) → n ≡ min k (length before) → length after ≡ length before → n ≡ length (take n after)
-counted n k before after e kept =
+-- So many bytes are within the list that holds the text, whose length stays.
+pub counted : (n k room : ℕ) (after : List ℕ) → n ≡ min k room → length after ≡ room → n ≡ length (take n after)
+counted n k room after e kept =
     let w : n ≤ length after = omega (arith, e, kept) in
     sym (length-take-le n after w)
