@@ -13,7 +13,8 @@ use wcs_refine::WcsRefineResult;
 
 // Three entries as a row of the rotation; a place that the list lacks is no number, and refused as such.
 fn row_at(rotation: &[f32], i: usize, j: usize, k: usize) -> [f32; 3]
-    ensures { λ r. ⌜ r ≡ getD (now (rotation .entry)) i nan ∷ getD (now (rotation .entry)) j nan ∷ getD (now (rotation .entry)) k nan ∷ [] ⌝ }
+    ensures { λ r. ⌜ r ≡ getD (now (rotation .entry)) i nan ∷ getD (now (rotation .entry)) j nan
+        ∷ getD (now (rotation .entry)) k nan ∷ [] ⌝ }
 {
     let x = single_at(rotation, i);
     let y = single_at(rotation, j);
@@ -33,7 +34,8 @@ fn put_counts(l: &mut [usize], r: WcsRefineResult)
 
 // Theta, RA, Dec, scale: the first four places.
 fn put_pose(l: &mut [f64], p: Pose)
-    ensures { λ _. ⌜ now (l .exit) ≡ set (set (set (set (now (l .entry)) 0 (p .theta)) 1 (p .ra)) 2 (p .dec)) 3 (p .scale) ⌝ }
+    ensures { λ _. ⌜ now (l .exit)
+        ≡ set (set (set (set (now (l .entry)) 0 (p .theta)) 1 (p .ra)) 2 (p .dec)) 3 (p .scale) ⌝ }
 {
     put_double(l, 0, p.theta);
     put_double(l, 1, p.ra);
@@ -51,7 +53,8 @@ fn put_two(l: &mut [f64], i: usize, j: usize, v: [f64; 2])
 
 // A row of the covariance, to three places.
 fn put_three(l: &mut [f64], i: usize, j: usize, k: usize, v: [f64; 3])
-    ensures { λ _. ⌜ now (l .exit) ≡ set (set (set (now (l .entry)) i (getD v 0 nan)) j (getD v 1 nan)) k (getD v 2 nan) ⌝ }
+    ensures { λ _. ⌜ now (l .exit)
+        ≡ set (set (set (now (l .entry)) i (getD v 0 nan)) j (getD v 1 nan)) k (getD v 2 nan) ⌝ }
 {
     put_double(l, i, v[0]);
     put_double(l, j, v[1]);
@@ -98,7 +101,15 @@ pub extern "C" fn raqembu_wcs_refine(
     counts: &mut [usize],
     values: &mut [f64],
 ) -> usize
-    ensures { λ r. ⌜ RefinedTo (called (now (spots .entry)) (now (matches .entry)) (now (directions .entry)) (rowsOf (now (rotation .entry))) scale mirror radius limit rounds (lists (now (numbers .entry)) (now (floats .entry)) (now (distances .entry)) (now (indices .entry)) (now (result .entry)))) r (lists (now (numbers .exit)) (now (floats .exit)) (now (distances .exit)) (now (indices .exit)) (now (result .exit))) (now (counts .entry)) (now (counts .exit)) (now (values .entry)) (now (values .exit)) ⌝ }
+    ensures { λ r. ⌜ RefinedTo
+        (called (now (spots .entry)) (now (matches .entry)) (now (directions .entry)) (rowsOf (now (rotation .entry)))
+        scale mirror radius limit rounds
+        (lists (now (numbers .entry)) (now (floats .entry)) (now (distances .entry))
+        (now (indices .entry)) (now (result .entry))))
+        r
+        (lists (now (numbers .exit)) (now (floats .exit)) (now (distances .exit))
+        (now (indices .exit)) (now (result .exit)))
+        (now (counts .entry)) (now (counts .exit)) (now (values .entry)) (now (values .exit)) ⌝ }
 {
     let row0 = row_at(rotation, 0, 1, 2);
     let row1 = row_at(rotation, 3, 4, 5);

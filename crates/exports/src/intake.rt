@@ -15,7 +15,8 @@ use record::Header;
 
 // Three entries of the rotation.
 fn put_row(l: &mut [f32], i: usize, j: usize, k: usize, v: [f32; 3])
-    ensures { λ _. ⌜ now (l .exit) ≡ set (set (set (now (l .entry)) i (getD v 0 nan)) j (getD v 1 nan)) k (getD v 2 nan) ⌝ }
+    ensures { λ _. ⌜ now (l .exit)
+        ≡ set (set (set (now (l .entry)) i (getD v 0 nan)) j (getD v 1 nan)) k (getD v 2 nan) ⌝ }
 {
     put_single(l, i, v[0]);
     put_single(l, j, v[1]);
@@ -71,7 +72,11 @@ pub extern "C" fn raqembu_read_record(
     measures: &mut [f64],
     rotation: &mut [f32],
 ) -> usize
-    ensures { λ r. ⌜ TakenTo (readRecord (now (bytes .entry)) (now (spots .entry)) (now (matches .entry)) (now (directions .entry))) r (now (spots .exit)) (now (matches .exit)) (now (directions .exit)) (now (choices .entry)) (now (choices .exit)) (now (measures .entry)) (now (measures .exit)) (now (rotation .entry)) (now (rotation .exit)) ⌝ }
+    ensures { λ r. ⌜ TakenTo
+        (readRecord (now (bytes .entry)) (now (spots .entry)) (now (matches .entry)) (now (directions .entry)))
+        r (now (spots .exit)) (now (matches .exit)) (now (directions .exit))
+        (now (choices .entry)) (now (choices .exit)) (now (measures .entry)) (now (measures .exit))
+        (now (rotation .entry)) (now (rotation .exit)) ⌝ }
 {
     let h = record::read_record(bytes, spots, matches, directions);
     put_choices(choices, h);

@@ -13,7 +13,8 @@ use matching::Matched;
 // Median and sigma go to the first two places of `out`, as far as it has them. The values are left zero.
 #[no_mangle]
 pub extern "C" fn raqembu_median_mad_sigma(vals: &mut [f64], out: &mut [f64])
-    ensures { λ _. ⌜ (now (vals .exit) ≡ replicate (length (now (vals .entry))) zero64) × (now (out .exit) ≡ twoPlaces (now (out .entry)) (medianMadSigma (now (vals .entry)))) ⌝ }
+    ensures { λ _. ⌜ (now (vals .exit) ≡ replicate (length (now (vals .entry))) zero64)
+        × (now (out .exit) ≡ twoPlaces (now (out .entry)) (medianMadSigma (now (vals .entry)))) ⌝ }
 {
     let s = stats::median_mad_sigma(vals);
     put_double(out, 0, s.median);
@@ -36,7 +37,8 @@ pub extern "C" fn raqembu_greedy_unique_matches(
     ensures { λ r. ⌜ MatchedTo
         (greedyUniqueMatches (now (points .entry)) «max_points» (now (predicted .entry)) «radius_sq»
         (now (distances .entry)) (now (indices .entry)) (now (work .entry)))
-        r (now (distances .exit)) (now (indices .exit)) (now (work .exit)) (now (counts .entry)) (now (counts .exit)) ⌝ }
+        r (now (distances .exit)) (now (indices .exit)) (now (work .exit))
+        (now (counts .entry)) (now (counts .exit)) ⌝ }
 {
     let m = matching::greedy_unique_matches(
         points,

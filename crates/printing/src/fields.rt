@@ -23,21 +23,24 @@ pub(crate) fn ok_line(
     out: &mut [u8],
     at: usize,
 ) -> usize
-    ensures { λ r. ⌜ Lays (line okWord (counts (matches ∷ rounds ∷ passes ∷ queries ∷ []))) (laid at (now (out .entry))) (laid r (now (out .exit))) ⌝ }
+    ensures { λ r. ⌜ Lays (line okWord (counts (matches ∷ rounds ∷ passes ∷ queries ∷ [])))
+        (laid at (now (out .entry))) (laid r (now (out .exit))) ⌝ }
 {
     let ns = [matches, rounds, passes, queries];
     count_line(b"ok", &ns, out, at)
 }
 
 pub(crate) fn pose_line(p: Pose, out: &mut [u8], at: usize) -> usize
-    ensures { λ r. ⌜ Lays (line poseWord (floats (p .theta ∷ p .ra ∷ p .dec ∷ p .scale ∷ []))) (laid at (now (out .entry))) (laid r (now (out .exit))) ⌝ }
+    ensures { λ r. ⌜ Lays (line poseWord (floats (p .theta ∷ p .ra ∷ p .dec ∷ p .scale ∷ [])))
+        (laid at (now (out .entry))) (laid r (now (out .exit))) ⌝ }
 {
     let xs = [p.theta, p.ra, p.dec, p.scale];
     float_line(b"pose", &xs, out, at)
 }
 
 pub(crate) fn cd_line(c0: [f64; 2], c1: [f64; 2], out: &mut [u8], at: usize) -> usize
-    ensures { λ r. ⌜ Lays (line cdWord (floats (getD c0 0 nan ∷ getD c0 1 nan ∷ getD c1 0 nan ∷ getD c1 1 nan ∷ []))) (laid at (now (out .entry))) (laid r (now (out .exit))) ⌝ }
+    ensures { λ r. ⌜ Lays (line cdWord (floats (getD c0 0 nan ∷ getD c0 1 nan ∷ getD c1 0 nan ∷ getD c1 1 nan ∷ [])))
+        (laid at (now (out .entry))) (laid r (now (out .exit))) ⌝ }
 {
     let xs = [c0[0], c0[1], c1[0], c1[1]];
     float_line(b"cd", &xs, out, at)
@@ -51,7 +54,10 @@ pub(crate) fn rms_line(x: f64, out: &mut [u8], at: usize) -> usize
 }
 
 pub(crate) fn cov_line(v0: [f64; 3], v1: [f64; 3], v2: [f64; 3], out: &mut [u8], at: usize) -> usize
-    ensures { λ r. ⌜ Lays (line covWord (floats (getD v0 0 nan ∷ getD v0 1 nan ∷ getD v0 2 nan ∷ getD v1 0 nan ∷ getD v1 1 nan ∷ getD v1 2 nan ∷ getD v2 0 nan ∷ getD v2 1 nan ∷ getD v2 2 nan ∷ []))) (laid at (now (out .entry))) (laid r (now (out .exit))) ⌝ }
+    ensures { λ r. ⌜ Lays (line covWord (floats (getD v0 0 nan ∷ getD v0 1 nan ∷ getD v0 2 nan
+        ∷ getD v1 0 nan ∷ getD v1 1 nan ∷ getD v1 2 nan
+        ∷ getD v2 0 nan ∷ getD v2 1 nan ∷ getD v2 2 nan ∷ [])))
+        (laid at (now (out .entry))) (laid r (now (out .exit))) ⌝ }
 {
     let xs = [
         v0[0],

@@ -13,7 +13,8 @@ mod fields; // fields.rt: the lines of an answer
 
 // Line after line, from the front of `out`.
 fn accepted(r: WcsRefineResult, matches: &[usize], out: &mut [u8]) -> usize
-    ensures { λ n. ⌜ Lays (acceptedText r (now (matches .entry))) (laid 0 (now (out .entry))) (laid n (now (out .exit))) ⌝ }
+    ensures { λ n. ⌜ Lays (acceptedText r (now (matches .entry)))
+        (laid 0 (now (out .entry))) (laid n (now (out .exit))) ⌝ }
 {
     let pose = r.pose;
     let cd0 = r.cd0;

@@ -50,7 +50,8 @@ fn push_floats(xs: &[f64], out: &mut [u8], at: usize) -> usize
 }
 
 pub(crate) fn count_line(word: &[u8], ns: &[usize], out: &mut [u8], at: usize) -> usize
-    ensures { λ r. ⌜ Lays (line (now (word .entry)) (counts (now (ns .entry)))) (laid at (now (out .entry))) (laid r (now (out .exit))) ⌝ }
+    ensures { λ r. ⌜ Lays (line (now (word .entry)) (counts (now (ns .entry))))
+        (laid at (now (out .entry))) (laid r (now (out .exit))) ⌝ }
 {
     let a = push_bytes(word, out, at);
     let b = push_counts(ns, out, a);
@@ -58,7 +59,8 @@ pub(crate) fn count_line(word: &[u8], ns: &[usize], out: &mut [u8], at: usize) -
 }
 
 pub(crate) fn float_line(word: &[u8], xs: &[f64], out: &mut [u8], at: usize) -> usize
-    ensures { λ r. ⌜ Lays (line (now (word .entry)) (floats (now (xs .entry)))) (laid at (now (out .entry))) (laid r (now (out .exit))) ⌝ }
+    ensures { λ r. ⌜ Lays (line (now (word .entry)) (floats (now (xs .entry))))
+        (laid at (now (out .entry))) (laid r (now (out .exit))) ⌝ }
 {
     let a = push_bytes(word, out, at);
     let b = push_floats(xs, out, a);
@@ -66,7 +68,8 @@ pub(crate) fn float_line(word: &[u8], xs: &[f64], out: &mut [u8], at: usize) -> 
 }
 
 fn match_line(spot: usize, direction: usize, out: &mut [u8], at: usize) -> usize
-    ensures { λ r. ⌜ Lays (line (109 ∷ []) (counts (spot ∷ direction ∷ []))) (laid at (now (out .entry))) (laid r (now (out .exit))) ⌝ }
+    ensures { λ r. ⌜ Lays (line (109 ∷ []) (counts (spot ∷ direction ∷ [])))
+        (laid at (now (out .entry))) (laid r (now (out .exit))) ⌝ }
 {
     let ns = [spot, direction];
     count_line(b"m", &ns, out, at)

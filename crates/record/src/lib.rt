@@ -54,7 +54,8 @@ pub fn read_record(
     matches: &mut [usize],
     directions: &mut [f32],
 ) -> Header
-    ensures { λ r. ⌜ intake r (now (spots .exit)) (now (matches .exit)) (now (directions .exit)) ≡ readRecord (now (bytes .entry)) (now (spots .entry)) (now (matches .entry)) (now (directions .entry)) ⌝ }
+    ensures { λ r. ⌜ intake r (now (spots .exit)) (now (matches .exit)) (now (directions .exit))
+        ≡ readRecord (now (bytes .entry)) (now (spots .entry)) (now (matches .entry)) (now (directions .entry)) ⌝ }
 {
     let f = look_over(bytes);
     if f.refusal != 0 {

@@ -69,7 +69,8 @@ pub(crate) struct Known {
 // The number at a place where one is known to stand: the second pass, which tests nothing but where the number ends.
 pub(crate) fn known_at(bytes: &[u8], at: usize) -> Known
     requires { ⌜ Lies (now bytes) at ⌝ }
-    ensures { λ r. ⌜ ((bits v n : ℕ) → number bits (drop at (now (bytes .entry))) ≡ Got v n → (r .value ≡ v) × (r .to ≡ at + n)) ⌝ }
+    ensures { λ r. ⌜ ((bits v n : ℕ) → number bits (drop at (now (bytes .entry))) ≡ Got v n
+        → (r .value ≡ v) × (r .to ≡ at + n)) ⌝ }
 {
     let mut v: u64 = 0;
     let mut weight: u64 = 1;

@@ -22,7 +22,8 @@ pub(crate) struct Passed {
 // So many numbers from a place on, none more than `top`. Each takes a byte or more, so the bytes end the loop early where they are too few.
 pub(crate) fn skip(bytes: &[u8], at: usize, count: usize, top: u64) -> Passed
     requires { ⌜ Greatest top ⌝ }
-    ensures { λ r. ⌜ ((bits : ℕ) → top + 1 ≡ 2 ^ bits → Over (run count bits (drop at (now (bytes .entry)))) (now (bytes .entry)) r) ⌝ }
+    ensures { λ r. ⌜ ((bits : ℕ) → top + 1 ≡ 2 ^ bits
+        → Over (run count bits (drop at (now (bytes .entry)))) (now (bytes .entry)) r) ⌝ }
 {
     let mut to = at;
     let mut i: usize = 0;
@@ -46,7 +47,8 @@ pub(crate) fn skip(bytes: &[u8], at: usize, count: usize, top: u64) -> Passed
 // A list of spots takes as many numbers as it has places, from a place where so many are known to stand.
 pub(crate) fn fill_doubles(bytes: &[u8], at: usize, list: &mut [f64])
     requires { ⌜ ((vs : List ℕ) × Standing (length (now list)) 64 (now bytes) at vs) ⌝ }
-    ensures { λ r. ⌜ ((vs : List ℕ) → Standing (length (now (list .entry))) 64 (now (bytes .entry)) at vs → now (list .exit) ≡ floatsOf binary64 vs) ⌝ }
+    ensures { λ r. ⌜ ((vs : List ℕ) → Standing (length (now (list .entry))) 64 (now (bytes .entry)) at vs
+        → now (list .exit) ≡ floatsOf binary64 vs) ⌝ }
 {
     let mut to = at;
     let mut i: usize = 0;
@@ -61,7 +63,8 @@ pub(crate) fn fill_doubles(bytes: &[u8], at: usize, list: &mut [f64])
 // The same for a list of directions.
 pub(crate) fn fill_singles(bytes: &[u8], at: usize, list: &mut [f32])
     requires { ⌜ ((vs : List ℕ) × Standing (length (now list)) 32 (now bytes) at vs) ⌝ }
-    ensures { λ r. ⌜ ((vs : List ℕ) → Standing (length (now (list .entry))) 32 (now (bytes .entry)) at vs → now (list .exit) ≡ floatsOf binary32 vs) ⌝ }
+    ensures { λ r. ⌜ ((vs : List ℕ) → Standing (length (now (list .entry))) 32 (now (bytes .entry)) at vs
+        → now (list .exit) ≡ floatsOf binary32 vs) ⌝ }
 {
     let mut to = at;
     let mut i: usize = 0;
@@ -76,7 +79,8 @@ pub(crate) fn fill_singles(bytes: &[u8], at: usize, list: &mut [f32])
 // The same for a list of matches.
 pub(crate) fn fill_wholes(bytes: &[u8], at: usize, list: &mut [usize])
     requires { ⌜ ((vs : List ℕ) × Standing (length (now list)) 32 (now bytes) at vs) ⌝ }
-    ensures { λ r. ⌜ ((vs : List ℕ) → Standing (length (now (list .entry))) 32 (now (bytes .entry)) at vs → now (list .exit) ≡ vs) ⌝ }
+    ensures { λ r. ⌜ ((vs : List ℕ) → Standing (length (now (list .entry))) 32 (now (bytes .entry)) at vs
+        → now (list .exit) ≡ vs) ⌝ }
 {
     let mut to = at;
     let mut i: usize = 0;

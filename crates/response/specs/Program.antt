@@ -1,13 +1,16 @@
 -- The lists that the program `refine` holds, and what it prints with them. Definitions only; the proofs are in proofs/Programs.antt. Assumes nothing.
+use mathlib.Core.Path.{_≡_}
 use Prim.Native.Nat.{ℕ, suc, _+_, _*_}
 use mathlib.Core.List.{List}
-use lib.ListN.{replicate}
+use lib.ListN.{length, replicate}
 use lib.Ieee.{Float}
 use Rattle.rounding.specs.Arith.{zero64}
 use Rattle.entry.specs.Arguments.{Lent}
+use Rattle.entry.specs.Check.{refusal}
 use Rattle.wcs_refine.specs.Returned.{lists}
 use Rattle.record.specs.Reading.{mostBytes}
-use Rattle.response.specs.Response.{responseTo}
+use Rattle.record.specs.Header.{Intake}
+use Rattle.response.specs.Response.{asked, responseTo}
 
 -- 01: "It holds 64 spots, 64 matches, 256 directions, 4,096 candidate distances and 8,192 candidate indices; a record free of 1 to 4 that counts more
 -- prints `no 11` without a call."
@@ -47,3 +50,11 @@ programText bytes =
 -- The room for reading: one byte more than a record may have, so that a longer input is seen to be too long.
 abbrev pub roomBytes : ℕ
 roomBytes = suc mostBytes
+
+-- The program's own lists are long enough for all that it holds: no call that a record asks for is refused with 11, so `no 11` is printed only where
+-- a record counts more than is held.
+abbrev pub NeverShort : Type 0
+NeverShort =
+    (i : Intake)
+    → length (i .spots) ≡ 2 * heldSpots → length (i .matches) ≡ 2 * heldMatches → length (i .directions) ≡ 3 * heldDirections
+    → refusal (asked i programLent) ≡ 11 → ⊥

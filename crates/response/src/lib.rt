@@ -53,7 +53,14 @@ fn called_with(
     indices: &mut [usize],
     result: &mut [usize],
 ) -> WcsRefineResult
-    ensures { λ r. ⌜ Answers (called (now (spots .entry)) (now (matches .entry)) (now (directions .entry)) (h .rot0 ∷ h .rot1 ∷ h .rot2 ∷ []) (h .scale) (h .mirror) (h .radius) (h .limit) (h .rounds) (lists (now (numbers .entry)) (now (floats .entry)) (now (distances .entry)) (now (indices .entry)) (now (result .entry)))) r (lists (now (numbers .exit)) (now (floats .exit)) (now (distances .exit)) (now (indices .exit)) (now (result .exit))) ⌝ }
+    ensures { λ r. ⌜ Answers
+        (called (now (spots .entry)) (now (matches .entry)) (now (directions .entry)) (h .rot0 ∷ h .rot1 ∷ h .rot2 ∷ [])
+        (h .scale) (h .mirror) (h .radius) (h .limit) (h .rounds)
+        (lists (now (numbers .entry)) (now (floats .entry)) (now (distances .entry))
+        (now (indices .entry)) (now (result .entry))))
+        r
+        (lists (now (numbers .exit)) (now (floats .exit)) (now (distances .exit))
+        (now (indices .exit)) (now (result .exit))) ⌝ }
 {
     let rot0 = h.rot0;
     let rot1 = h.rot1;
@@ -88,7 +95,13 @@ fn call(
     indices: &mut [usize],
     result: &mut [usize],
 ) -> WcsRefineResult
-    ensures { λ r. ⌜ Answers (asked (intake h (now (spots .entry)) (now (matches .entry)) (now (directions .entry))) (lists (now (numbers .entry)) (now (floats .entry)) (now (distances .entry)) (now (indices .entry)) (now (result .entry)))) r (lists (now (numbers .exit)) (now (floats .exit)) (now (distances .exit)) (now (indices .exit)) (now (result .exit))) ⌝ }
+    ensures { λ r. ⌜ Answers
+        (asked (intake h (now (spots .entry)) (now (matches .entry)) (now (directions .entry)))
+        (lists (now (numbers .entry)) (now (floats .entry)) (now (distances .entry))
+        (now (indices .entry)) (now (result .entry))))
+        r
+        (lists (now (numbers .exit)) (now (floats .exit)) (now (distances .exit))
+        (now (indices .exit)) (now (result .exit))) ⌝ }
 {
     let s = pairs(h.spots, spots.len());
     let m = pairs(h.matches, matches.len());
@@ -108,8 +121,10 @@ fn call(
 
 // The answer with the matches that it reports, which stand at the front of the result list.
 fn print_with_matches(r: WcsRefineResult, result: &[usize], out: &mut [u8]) -> usize
-    ensures { λ n. ⌜ n ≡ min (length (answerText r (take (2 * r .matches) (now (result .entry))))) (length (now (out .entry))) ⌝ }
-    ensures { λ _. ⌜ now (out .exit) ≡ setFrom 0 (answerText r (take (2 * r .matches) (now (result .entry)))) (now (out .entry)) ⌝ }
+    ensures { λ n. ⌜ n
+        ≡ min (length (answerText r (take (2 * r .matches) (now (result .entry))))) (length (now (out .entry))) ⌝ }
+    ensures { λ _. ⌜ now (out .exit)
+        ≡ setFrom 0 (answerText r (take (2 * r .matches) (now (result .entry)))) (now (out .entry)) ⌝ }
 {
     let m = pairs(r.matches, result.len());
     print_answer(r, &result[0..m], out)
@@ -128,7 +143,13 @@ fn answer(
     result: &mut [usize],
     out: &mut [u8],
 ) -> usize
-    ensures { λ n. ⌜ Printed (answerTo (intake h (now (spots .entry)) (now (matches .entry)) (now (directions .entry))) (lists (now (numbers .entry)) (now (floats .entry)) (now (distances .entry)) (now (indices .entry)) (now (result .entry)))) n (now (out .entry)) (now (out .exit)) (now (spots .entry)) (now (matches .entry)) (now (directions .entry)) (lists (now (numbers .exit)) (now (floats .exit)) (now (distances .exit)) (now (indices .exit)) (now (result .exit))) ⌝ }
+    ensures { λ n. ⌜ Printed
+        (answerTo (intake h (now (spots .entry)) (now (matches .entry)) (now (directions .entry)))
+        (lists (now (numbers .entry)) (now (floats .entry)) (now (distances .entry))
+        (now (indices .entry)) (now (result .entry))))
+        n (now (out .entry)) (now (out .exit)) (now (spots .entry)) (now (matches .entry)) (now (directions .entry))
+        (lists (now (numbers .exit)) (now (floats .exit)) (now (distances .exit))
+        (now (indices .exit)) (now (result .exit))) ⌝ }
 {
     let r = call(
         h,
@@ -158,7 +179,13 @@ pub fn respond(
     result: &mut [usize],
     out: &mut [u8],
 ) -> usize
-    ensures { λ n. ⌜ Printed (responseTo (now («record» .entry)) (now (spots .entry)) (now (matches .entry)) (now (directions .entry)) (lists (now (numbers .entry)) (now (floats .entry)) (now (distances .entry)) (now (indices .entry)) (now (result .entry)))) n (now (out .entry)) (now (out .exit)) (now (spots .exit)) (now (matches .exit)) (now (directions .exit)) (lists (now (numbers .exit)) (now (floats .exit)) (now (distances .exit)) (now (indices .exit)) (now (result .exit))) ⌝ }
+    ensures { λ n. ⌜ Printed
+        (responseTo (now («record» .entry)) (now (spots .entry)) (now (matches .entry)) (now (directions .entry))
+        (lists (now (numbers .entry)) (now (floats .entry)) (now (distances .entry))
+        (now (indices .entry)) (now (result .entry))))
+        n (now (out .entry)) (now (out .exit)) (now (spots .exit)) (now (matches .exit)) (now (directions .exit))
+        (lists (now (numbers .exit)) (now (floats .exit)) (now (distances .exit))
+        (now (indices .exit)) (now (result .exit))) ⌝ }
 {
     let h = read_record(record, spots, matches, directions);
     if 0 < h.refusal {
