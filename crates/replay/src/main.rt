@@ -7,6 +7,7 @@ mod parts; // parts.rt: the parts of a file
 mod tell; // tell.rt: what is written
 mod trial; // trial.rt: one record
 
+use response::record_room;
 use tell::say;
 
 fn main() {
@@ -77,7 +78,7 @@ fn each_entry(bytes: &[u8]) {
 
 // A record of one byte too many is too long for a file.
 fn too_long() {
-    let record = [0u8; 65537];
+    let record = record_room();
     say(b"65537 bytes: ");
     if trial::run(&record, b"no 1\n") {
         tell::report(1, 0);
