@@ -60,8 +60,8 @@ fixedFrom spots directions scale mirror radius limit distances indices = record 
 unfoldable pub fixed : Call → Fixed
 unfolding fixedFrom
 fixed c =
-    fixedFrom (c .spots) (length (c .directions)) (c .given .scale) (c .given .mirror) (c .given .radius) (c .given .limit)
-    (length (c .given .lent .distances)) (length (c .given .lent .indices))
+    fixedFrom (c .spots) (length (c .directions)) (c .given .scale) (c .given .mirror) (c .given .radius)
+    (c .given .limit) (length (c .given .lent .distances)) (length (c .given .lent .indices))
 
 -- 1.5, how much wider than the field is searched, and 3.0, how many margins beyond the field a direction stays cached
 abbrev pub fieldFactor : Float

@@ -38,7 +38,9 @@ setFrom i [] l = l
 setFrom i (x ∷ xs) l = setFrom (suc i) xs (set l i x)
 
 -- The number handed back, the lists of the call, and the two lists of values.
-pub record RefinedTo (c : Call) (r : ℕ) (lent : Lent) (counts-before counts-after : List ℕ) (values-before values-after : List Float) : Type 0 where
+pub record RefinedTo
+    (c : Call) (r : ℕ) (lent : Lent) (counts-before counts-after : List ℕ) (values-before values-after : List Float)
+    : Type 0 where
   pub refusal : r ≡ returned (outcome c) .result .refusal
   pub lists : lent ≡ returned (outcome c) .lent
   pub counted : counts-after ≡ setFrom 0 (counts (returned (outcome c) .result)) counts-before

@@ -26,7 +26,9 @@ entries h =
     ∷ []
 
 -- The number handed back, the lists that the record was read into, and the three lists of the header's values.
-pub record TakenTo (i : Intake) (r : ℕ) (spots : List Float) (matches : List ℕ) (directions : List Float) (choices-before choices-after : List ℕ) (measures-before measures-after rotation-before rotation-after : List Float) : Type 0 where
+pub record TakenTo (i : Intake) (r : ℕ) (spots : List Float) (matches : List ℕ) (directions : List Float)
+    (choices-before choices-after : List ℕ) (measures-before measures-after rotation-before rotation-after : List Float)
+    : Type 0 where
   pub refusal : r ≡ i .header .refusal
   pub read-spots : spots ≡ i .spots
   pub read-matches : matches ≡ i .matches

@@ -44,7 +44,8 @@ rowAt spots directions matches k = record {
 unfoldable pub rowsFrom : List Float → List Float → List ℕ → ℕ → ℕ → List Row
 unfolding rowAt
 rowsFrom spots directions matches k zero = []
-rowsFrom spots directions matches k (suc n) = rowAt spots directions matches k ∷ rowsFrom spots directions matches (suc k) n
+rowsFrom spots directions matches k (suc n) =
+    rowAt spots directions matches k ∷ rowsFrom spots directions matches (suc k) n
 
 -- `for &(cent_idx, cat_idx) in matches`: the rows of all matches, in their order.
 unfoldable pub rows : List Float → List Float → List ℕ → List Row

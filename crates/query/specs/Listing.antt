@@ -26,7 +26,8 @@ leastCosOf search margin = cos32 (clampF (narrowed (search ⊕ margin)) zero64 p
 
 -- `drifted` past a cosine and a margin of roll.
 unfoldable pub driftedFrom : List Float → Float → Pose → Float → Float → Bool
-driftedFrom b theta p cosine margin = lt (dot b (boresight (p .ra) (p .dec))) cosine || lt margin (absF (p .theta ⊖ theta))
+driftedFrom b theta p cosine margin =
+    lt (dot b (boresight (p .ra) (p .dec))) cosine || lt margin (absF (p .theta ⊖ theta))
 
 -- So many new ones stand at the front of the list, and what stands after them is as it was.
 pub record Fronted (new was now : List ℕ) (r : ℕ) : Type 0 where

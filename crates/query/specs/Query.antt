@@ -19,7 +19,8 @@ use Rattle.entry.specs.Fixed.{Fixed, searchRadius, requeryMargin, requeryCos, p
 -- "dot is (a0b0 + a1b1) + a2b2", in f32.
 unfoldable pub dot32 : List Float → List Float → Float
 dot32 a b =
-    add binary32 (add binary32 (mul binary32 (at a 0) (at b 0)) (mul binary32 (at a 1) (at b 1))) (mul binary32 (at a 2) (at b 2))
+    add binary32 (add binary32 (mul binary32 (at a 0) (at b 0)) (mul binary32 (at a 1) (at b 1)))
+    (mul binary32 (at a 2) (at b 2))
 
 -- "the normalised boresight": its components are narrowed first, and a norm that is not above zero falls back to (1, 0, 0), as in the Rust's
 -- `normalize_or_fallback`.
@@ -65,7 +66,8 @@ pub data Cache : Type 0 where
 -- `need_query` where a query is cached, at boresight b and roll theta: "re-query when either drifts past its margin".
 unfoldable pub drifted : Fixed → Pose → List Float → Float → Bool
 unfolding dot boresight requeryCos thetaMargin absF
-drifted k p b theta = lt (dot b (boresight (p .ra) (p .dec))) (requeryCos k) || lt (thetaMargin k) (absF (p .theta ⊖ theta))
+drifted k p b theta =
+    lt (dot b (boresight (p .ra) (p .dec))) (requeryCos k) || lt (thetaMargin k) (absF (p .theta ⊖ theta))
 
 -- ---- predictions: where a direction falls on the panel
 

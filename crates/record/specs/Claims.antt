@@ -32,7 +32,9 @@ NumberBytes bits l = (n : ℕ) × (n < 2 ^ bits) × (l ≡ written n)
 
 -- Its written form is read as its value, and what is read is the written form of the value.
 abbrev pub NumberReads : Type 0
-NumberReads = (bits n : ℕ) (rest : List ℕ) → bits ≤ 64 → n < 2 ^ bits → number bits (written n ++ rest) ≡ Got n (length (written n))
+NumberReads =
+    (bits n : ℕ) (rest : List ℕ) → bits ≤ 64 → n < 2 ^ bits
+    → number bits (written n ++ rest) ≡ Got n (length (written n))
 
 -- A number that was read: it fits its bits, and the bytes that it took are its written form.
 pub record NumberRead (bits : ℕ) (l : List ℕ) (n k : ℕ) : Type 0 where
@@ -46,11 +48,16 @@ NumberMeans = (bits n k : ℕ) (l : List ℕ) → Octets l → bits ≤ 64 → n
 
 -- Each refusal exactly under its condition.
 abbrev pub NumberShort : Type 0
-NumberShort = (bits : ℕ) (l : List ℕ) → Octets l → bits ≤ 64 → (number bits l ≡ Short → Begins (NumberBytes bits) l) × (Begins (NumberBytes bits) l → number bits l ≡ Short)
+NumberShort =
+    (bits : ℕ) (l : List ℕ) → Octets l → bits ≤ 64
+    → (number bits l ≡ Short → Begins (NumberBytes bits) l) × (Begins (NumberBytes bits) l → number bits l ≡ Short)
 
 -- 3: at some byte the number has no lawful ending any more.
 abbrev pub NumberWrong : Type 0
-NumberWrong = (bits : ℕ) (l : List ℕ) → Octets l → bits ≤ 64 → (number bits l ≡ Wrong → (i : ℕ) × SpoiledAt (NumberBytes bits) l i) × ((i : ℕ) → SpoiledAt (NumberBytes bits) l i → number bits l ≡ Wrong)
+NumberWrong =
+    (bits : ℕ) (l : List ℕ) → Octets l → bits ≤ 64
+    → (number bits l ≡ Wrong → (i : ℕ) × SpoiledAt (NumberBytes bits) l i)
+    × ((i : ℕ) → SpoiledAt (NumberBytes bits) l i → number bits l ≡ Wrong)
 
 -- ---- a record
 
@@ -74,15 +81,21 @@ RecordMeans = (l : List ℕ) (e : Exposure) → Octets l → reading l ≡ whole
 
 -- Refusals 1 to 4, each exactly under its condition.
 abbrev pub RecordLong : Type 0
-RecordLong = (l : List ℕ) → (reading l ≡ refused 1 → mostBytes < length l) × (mostBytes < length l → reading l ≡ refused 1)
+RecordLong =
+    (l : List ℕ) → (reading l ≡ refused 1 → mostBytes < length l) × (mostBytes < length l → reading l ≡ refused 1)
 
 -- 2: the bytes begin a record, and more of it would follow.
 abbrev pub RecordShort : Type 0
-RecordShort = (l : List ℕ) → Octets l → length l ≤ mostBytes → (reading l ≡ refused 2 → Begins RecordBytes l) × (Begins RecordBytes l → reading l ≡ refused 2)
+RecordShort =
+    (l : List ℕ) → Octets l → length l ≤ mostBytes
+    → (reading l ≡ refused 2 → Begins RecordBytes l) × (Begins RecordBytes l → reading l ≡ refused 2)
 
 -- 3: at some byte the record has no lawful ending any more.
 abbrev pub RecordWrong : Type 0
-RecordWrong = (l : List ℕ) → Octets l → length l ≤ mostBytes → (reading l ≡ refused 3 → (i : ℕ) × SpoiledAt RecordBytes l i) × ((i : ℕ) → SpoiledAt RecordBytes l i → reading l ≡ refused 3)
+RecordWrong =
+    (l : List ℕ) → Octets l → length l ≤ mostBytes
+    → (reading l ≡ refused 3 → (i : ℕ) × SpoiledAt RecordBytes l i)
+    × ((i : ℕ) → SpoiledAt RecordBytes l i → reading l ≡ refused 3)
 
 -- A record, and bytes after it.
 abbrev pub Followed : List ℕ → Type 0
@@ -90,4 +103,6 @@ Followed l = (e : Exposure) × (b : ℕ) × (rest : List ℕ) × Whole e × (l �
 
 -- 4: "Bytes follow the last number."
 abbrev pub RecordFollowed : Type 0
-RecordFollowed = (l : List ℕ) → Octets l → length l ≤ mostBytes → (reading l ≡ refused 4 → Followed l) × (Followed l → reading l ≡ refused 4)
+RecordFollowed =
+    (l : List ℕ) → Octets l → length l ≤ mostBytes
+    → (reading l ≡ refused 4 → Followed l) × (Followed l → reading l ≡ refused 4)

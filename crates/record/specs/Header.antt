@@ -71,7 +71,8 @@ intake h spots matches directions = record { header = h; spots = spots; matches 
 -- 11: "Reading a record into spot, match or direction lists too short for it is 11 too, after 4; longer ones stay unchanged past it."
 abbrev pub room : Exposure → List Float → List ℕ → List Float → Bool
 room e spots matches directions =
-    leb (length (e .spots)) (length spots) && leb (length (e .matches)) (length matches) && leb (length (e .directions)) (length directions)
+    leb (length (e .spots)) (length spots) && leb (length (e .matches)) (length matches)
+    && leb (length (e .directions)) (length directions)
 
 -- What was read, taken into the lists: a refusal leaves them as they came.
 unfoldable pub taken : Read → List Float → List ℕ → List Float → Intake
@@ -79,7 +80,8 @@ unfolding refusedHeader headerOf floatsOf
 taken (refused n) spots matches directions = intake (refusedHeader n) spots matches directions
 taken (whole e) spots matches directions =
     cond (room e spots matches directions)
-    (intake (headerOf e) (fronted (floatsOf binary64 (e .spots)) spots) (fronted (e .matches) matches) (fronted (floatsOf binary32 (e .directions)) directions))
+    (intake (headerOf e) (fronted (floatsOf binary64 (e .spots)) spots) (fronted (e .matches) matches)
+    (fronted (floatsOf binary32 (e .directions)) directions))
     (intake (refusedHeader 11) spots matches directions)
 
 -- The whole of reading a record into three lent lists.

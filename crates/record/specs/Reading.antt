@@ -29,13 +29,15 @@ following bytes Wrong after = fault 3
 unfoldable pub numbers : List ℕ → List ℕ → Values
 unfolding onward following number
 numbers [] bytes = values [] bytes
-numbers (b ∷ bs) bytes = following bytes (number b bytes) (λ v rest. onward (numbers bs rest) (λ vs more. values (v ∷ vs) more))
+numbers (b ∷ bs) bytes =
+    following bytes (number b bytes) (λ v rest. onward (numbers bs rest) (λ vs more. values (v ∷ vs) more))
 
 -- k numbers of the same bits.
 unfoldable pub run : ℕ → ℕ → List ℕ → Values
 unfolding onward following number
 run zero b bytes = values [] bytes
-run (suc k) b bytes = following bytes (number b bytes) (λ v rest. onward (run k b rest) (λ vs more. values (v ∷ vs) more))
+run (suc k) b bytes =
+    following bytes (number b bytes) (λ v rest. onward (run k b rest) (λ vs more. values (v ∷ vs) more))
 
 -- The bits of the first seventeen numbers: three counts, mirror, scale, radius, limit, rounds, and the rotation.
 abbrev pub headBits : List ℕ

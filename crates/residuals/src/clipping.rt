@@ -66,7 +66,8 @@ fn compact(residuals: &[f64], matches: &mut [usize], threshold: f64)
 // The matches whose residuals are at most median + 3 sigma are kept, if that drops some of them and leaves enough; else all stay.
 pub fn mad_clip_matches(residuals: &[f64], matches: &mut [usize], median: f64, sigma: f64) -> Clip
     ensures { λ r.
-        ⌜ clipped r (now (matches .exit)) ≡ madClipMatches (now (residuals .entry)) (now (matches .entry)) median sigma ⌝ }
+        ⌜ clipped r (now (matches .exit))
+        ≡ madClipMatches (now (residuals .entry)) (now (matches .entry)) median sigma ⌝ }
 {
     let n = matches.len() / 2;
     let threshold = median + CLIP_NSIGMA * sigma;

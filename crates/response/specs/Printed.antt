@@ -9,7 +9,9 @@ use Rattle.printing.specs.Text.{setFrom}
 use Rattle.response.specs.Response.{Response}
 
 -- The text stands at the front of `out`, as far as that has places: so many bytes. The lists are those of the response.
-pub record Printed (r : Response) (n : ℕ) (before after : List ℕ) (spots : List Float) (matches : List ℕ) (directions : List Float) (lent : Lent) : Type 0 where
+pub record Printed
+    (r : Response) (n : ℕ) (before after : List ℕ) (spots : List Float) (matches : List ℕ) (directions : List Float)
+    (lent : Lent) : Type 0 where
   pub count : n ≡ min (length (r .text)) (length before)
   pub out : after ≡ setFrom 0 (r .text) before
   pub read-spots : spots ≡ r .spots

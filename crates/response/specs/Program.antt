@@ -39,13 +39,16 @@ heldResult = 2 * heldSpots
 -- The lists of the program, as it lends them: all zero.
 unfoldable pub programLent : Lent
 programLent =
-    lists (replicate heldWork 0) (replicate heldWork zero64) (replicate heldDistances zero64) (replicate heldIndices 0) (replicate heldResult 0)
+    lists (replicate heldWork 0) (replicate heldWork zero64)
+    (replicate heldDistances zero64) (replicate heldIndices 0) (replicate heldResult 0)
 
 -- What the program prints of the bytes that it reads.
 unfoldable pub programText : List ℕ → List ℕ
 unfolding programLent
 programText bytes =
-    responseTo bytes (replicate (2 * heldSpots) zero64) (replicate (2 * heldMatches) 0) (replicate (3 * heldDirections) zero64) programLent .text
+    responseTo bytes
+    (replicate (2 * heldSpots) zero64) (replicate (2 * heldMatches) 0) (replicate (3 * heldDirections) zero64)
+    programLent .text
 
 -- The room for reading: one byte more than a record may have, so that a longer input is seen to be too long.
 abbrev pub roomBytes : ℕ
@@ -56,5 +59,6 @@ roomBytes = suc mostBytes
 abbrev pub NeverShort : Type 0
 NeverShort =
     (i : Intake)
-    → length (i .spots) ≡ 2 * heldSpots → length (i .matches) ≡ 2 * heldMatches → length (i .directions) ≡ 3 * heldDirections
+    → length (i .spots) ≡ 2 * heldSpots → length (i .matches) ≡ 2 * heldMatches
+    → length (i .directions) ≡ 3 * heldDirections
     → refusal (asked i programLent) ≡ 11 → ⊥

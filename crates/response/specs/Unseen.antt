@@ -32,7 +32,8 @@ UnseenShowsNothing =
 abbrev pub RecordsAgree : Type 0
 RecordsAgree =
     (a b : List ℕ) (spots : List Float) (matches : List ℕ) (directions : List Float) (lent l m : Lent)
-    (n k : ℕ) (out outA outB : List ℕ) (spotsA spotsB : List Float) (matchesA matchesB : List ℕ) (directionsA directionsB : List Float)
+    (n k : ℕ) (out outA outB : List ℕ) (spotsA spotsB : List Float) (matchesA matchesB : List ℕ)
+    (directionsA directionsB : List Float)
     → OnlyUnseenRead (readRecord a spots matches directions) (readRecord b spots matches directions) lent
     → Printed (responseTo a spots matches directions lent) n out outA spotsA matchesA directionsA l
     → Printed (responseTo b spots matches directions lent) k out outB spotsB matchesB directionsB m
@@ -41,8 +42,10 @@ RecordsAgree =
 -- What the program `refine` holds once it has read a record.
 abbrev pub programIntake : List ℕ → Intake
 programIntake bytes =
-    readRecord bytes (replicate (2 * heldSpots) zero64) (replicate (2 * heldMatches) 0) (replicate (3 * heldDirections) zero64)
+    readRecord bytes
+    (replicate (2 * heldSpots) zero64) (replicate (2 * heldMatches) 0) (replicate (3 * heldDirections) zero64)
 
 -- The same of the program.
 abbrev pub ProgramShowsNothing : Type 0
-ProgramShowsNothing = (a b : List ℕ) → OnlyUnseenRead (programIntake a) (programIntake b) programLent → programText a ≡ programText b
+ProgramShowsNothing =
+    (a b : List ℕ) → OnlyUnseenRead (programIntake a) (programIntake b) programLent → programText a ≡ programText b

@@ -41,7 +41,8 @@ queries c = queriesAfter c (refusal c)
 unfoldable pub closed : Call → Closed → Run → Answer
 unfolding reported rows fixed
 closed c unsound r = no 12
-closed c (fine p ms) r = ok (reported (fixed c) p ms (rows (c .spots) (c .directions) ms)) (r .rounds) (r .passes) (length (r .queries))
+closed c (fine p ms) r =
+    ok (reported (fixed c) p ms (rows (c .spots) (c .directions) ms)) (r .rounds) (r .passes) (length (r .queries))
 
 -- After the loop: the refusal that it met, 12 or 13, or the closing clips from the state that it ended in.
 unfoldable pub finished : Call → Ending → Run → Answer

@@ -49,7 +49,8 @@ unfoldable pub closingClip : Float → List Float → List Float → Pose → Li
 unfolding clipBy residuals viewOf rows statistics
 closingClip cut spots directions p ms =
     let rs = residuals (viewOf p cut) (rows spots directions ms) in
-    cond (ltb (length ms / 2) fewestMatches) (record { answer = Unchanged; matches = ms }) (clipBy rs ms (statistics rs))
+    cond (ltb (length ms / 2) fewestMatches) (record { answer = Unchanged; matches = ms })
+    (clipBy rs ms (statistics rs))
 
 -- What follows a refit: refusal 12, or `after` at its pose.
 abbrev pub follows : Refitted → (Pose → Closed) → Closed

@@ -46,7 +46,8 @@ numberedDirection start l k = getD l (start + 2 * (k - 1) + 1) 0
 unfoldable pub tells : ℕ → ℕ → ℕ → List ℕ → List ℕ → Link → Bool
 tells base n start m l x =
     ltb (x .spot) n
-    && (not (eqb (getD m (base + x .spot) 0) 0) && eqb (x .direction) (numberedDirection start l (getD m (base + x .spot) 0)))
+    && (not (eqb (getD m (base + x .spot) 0) 0)
+    && eqb (x .direction) (numberedDirection start l (getD m (base + x .spot) 0)))
 
 -- All but the table is as it was.
 pub record Kept (base n : ℕ) (now was : List ℕ) : Type 0 where
@@ -101,4 +102,5 @@ pub record FoundTo (n q : ℕ) (spots : List Float) (limit : ℕ) (r : Float) (f
   pub found : f .full ≡ false
       → (f .count ≡ length (matchesOf spots limit (slice (2 * n) (2 * n + 2 * q) floats) (r ⊗ r)))
       × NewAt n (f .within) (f .count)
-      (renamedBy (slice (3 * n) (3 * n + q) before) (flat (matchesOf spots limit (slice (2 * n) (2 * n + 2 * q) floats) (r ⊗ r)))) before after
+      (renamedBy (slice (3 * n) (3 * n + q) before)
+      (flat (matchesOf spots limit (slice (2 * n) (2 * n + 2 * q) floats) (r ⊗ r)))) before after

@@ -25,7 +25,8 @@ pub record Begun (matches : List ℕ) (rotation : List (List Float)) (scale : Fl
 -- The answer after the closing clips, from the numbers that the run is given once and its counts.
 unfoldable pub concluded : Fixed → List Float → List Float → Closed → ℕ → ℕ → ℕ → Answer
 concluded k spots directions unsound rounds passes queries = no 12
-concluded k spots directions (fine p ms) rounds passes queries = ok (reported k p ms (rows spots directions ms)) rounds passes queries
+concluded k spots directions (fine p ms) rounds passes queries =
+    ok (reported k p ms (rows spots directions ms)) rounds passes queries
 
 -- The result list after an answer: it starts with the matches, or is as it came.
 unfoldable pub resultAfter : List ℕ → Answer → List ℕ

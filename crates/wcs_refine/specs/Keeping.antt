@@ -44,7 +44,14 @@ heldState n h l = record { pose = h .pose; matches = heldMatches h l; cache = he
 
 -- The same state with another count of matches.
 abbrev pub withUsed : Held → ℕ → Held
-withUsed h n = record { pose = h .pose; used = n; filled = h .filled; boresight = h .boresight; theta = h .theta; cached = h .cached }
+withUsed h n = record {
+  pose = h .pose;
+  used = n;
+  filled = h .filled;
+  boresight = h .boresight;
+  theta = h .theta;
+  cached = h .cached;
+}
 
 -- ---- what every step is lent
 
@@ -92,7 +99,8 @@ pub record Predicted (n q : ℕ) (numbers : List ℕ) (floats : List Float) (qs 
 pub record AssociatedTo (k : Settings) (n : ℕ) (spots : List Float) (h : Held) (r : Float) (q : ℕ) (before : List ℕ)
     (floats : List Float) (after : List ℕ) (s : Step) : Type 0 where
   pub next : (qs : List Prediction) → Predicted n q before floats qs →
-      nextOf (s .verdict) (heldState n (s .held) after) ≡ associated (fixedOf k) spots (h .pose) (heldMatches h before) (heldCache n h before) r qs
+      nextOf (s .verdict) (heldState n (s .held) after)
+      ≡ associated (fixedOf k) spots (h .pose) (heldMatches h before) (heldCache n h before) r qs
   pub fits : Fits k n (s .held)
 
 -- What the search makes of a state comes down to the matcher on the predictions that now stand in their regions.
@@ -104,7 +112,10 @@ pub record LookedTo (k : Settings) (n : ℕ) (directions : List Float) (h : Held
   pub few : r .predicted ≤ k .count
   pub searched : (spots : List Float) (ms : List ℕ) (radius : Float) →
       searched (fixedOf k) spots directions (h .pose) ms radius (heldCache n h before)
-      ≡ record { next = associated (fixedOf k) spots (h .pose) ms (heldCache n (r .held) after) radius predictions; queries = queries }
+      ≡ record {
+        next = associated (fixedOf k) spots (h .pose) ms (heldCache n (r .held) after) radius predictions;
+        queries = queries;
+      }
   pub count : r .queries ≡ length queries
   pub pose : r .held .pose ≡ h .pose
   pub used : r .held .used ≡ h .used
@@ -117,7 +128,8 @@ pub record SearchedTo (k : Settings) (n : ℕ) (spots directions : List Float) (
   pub next : nextOf (s .verdict) (heldState n (s .held) after)
       ≡ searched (fixedOf k) spots directions (h .pose) (heldMatches h before) radius (heldCache n h before) .next
   pub count : s .queries
-      ≡ length (searched (fixedOf k) spots directions (h .pose) (heldMatches h before) radius (heldCache n h before) .queries)
+      ≡ length
+      (searched (fixedOf k) spots directions (h .pose) (heldMatches h before) radius (heldCache n h before) .queries)
   pub fits : Fits k n (s .held)
 
 -- ---- one round, and the loop

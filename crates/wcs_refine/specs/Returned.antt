@@ -69,7 +69,13 @@ returned o = record { result = valuesOf (o .answer); lent = o .lent }
 
 -- The arguments of the code, in its order: the lent lists, and the call that they are part of.
 abbrev pub lists : List ℕ → List Float → List Float → List ℕ → List ℕ → Lent
-lists numbers floats distances indices result = record { numbers = numbers; floats = floats; distances = distances; indices = indices; result = result }
+lists numbers floats distances indices result = record {
+  numbers = numbers;
+  floats = floats;
+  distances = distances;
+  indices = indices;
+  result = result;
+}
 
 abbrev pub called : List Float → List ℕ → List Float → List (List Float) → Float → Bool → Float → ℕ → ℕ → Lent → Call
 called spots matches directions rotation scale mirror radius limit rounds lent = record {

@@ -65,7 +65,9 @@ unfolding associated predictions pruned cameraRows boresight
 fresh k spots directions p ms r listed =
     let rows = cameraRows (p .theta) (p .ra) (p .dec) in
     record {
-      next = associated k spots p ms (full (boresight (p .ra) (p .dec)) (p .theta) (pruned k directions rows listed)) r (predictions k directions rows listed);
+      next =
+          associated k spots p ms (full (boresight (p .ra) (p .dec)) (p .theta) (pruned k directions rows listed)) r
+          (predictions k directions rows listed);
       queries = listed ∷ [];
     }
 
@@ -75,7 +77,9 @@ unfoldable pub reused : Fixed → List Float → List Float → Pose → List �
 unfolding fresh associated predictions query cameraRows
 reused k spots directions p ms r b theta listed true = fresh k spots directions p ms r (query k directions p)
 reused k spots directions p ms r b theta listed false = record {
-  next = associated k spots p ms (full b theta listed) r (predictions k directions (cameraRows (p .theta) (p .ra) (p .dec)) listed);
+  next =
+      associated k spots p ms (full b theta listed) r
+      (predictions k directions (cameraRows (p .theta) (p .ra) (p .dec)) listed);
   queries = [];
 }
 
@@ -83,7 +87,8 @@ reused k spots directions p ms r b theta listed false = record {
 unfoldable pub searched : Fixed → List Float → List Float → Pose → List ℕ → Float → Cache → Found
 unfolding fresh reused query drifted
 searched k spots directions p ms r empty = fresh k spots directions p ms r (query k directions p)
-searched k spots directions p ms r (full b theta listed) = reused k spots directions p ms r b theta listed (drifted k p b theta)
+searched k spots directions p ms r (full b theta listed) =
+    reused k spots directions p ms r b theta listed (drifted k p b theta)
 
 -- Phases B to D, at the pose that the passes left.
 unfoldable pub rest : Fixed → List Float → List Float → Pose → List ℕ → Cache → List Float → Found
@@ -96,7 +101,10 @@ rest k spots directions p ms c rs =
 unfoldable pub fitted : Fixed → List Float → List Float → State → List Row → Passes → Round
 unfolding rest residuals viewOf
 fitted k spots directions s rs f = record {
-  found = cond (f .fine) (rest k spots directions (f .pose) (s .matches) (s .cache) (residuals (viewOf (f .pose) (k .cut)) rs)) (record { next = refuse 12; queries = [] });
+  found =
+      cond (f .fine)
+      (rest k spots directions (f .pose) (s .matches) (s .cache) (residuals (viewOf (f .pose) (k .cut)) rs))
+      (record { next = refuse 12; queries = [] });
   passes = f .passes;
 }
 
@@ -128,7 +136,9 @@ pub record Run : Type 0 where
 -- One round, of n passes and the queries qs, and what follows it by what it came to. "Reported .. are rounds, fit passes and queries, as the Rust
 -- counts WCS_OUTER, WCS_INNER and WCS_REASSOC_CALL": a round counts once, its passes and queries before those of the rounds after it.
 unfoldable pub carry : ℕ → List (List ℕ) → Next → (State → Run) → Run
-carry n qs (go s) f = let r = f s in record { ending = r .ending; rounds = suc (r .rounds); passes = n + r .passes; queries = qs ++ r .queries }
+carry n qs (go s) f =
+    let r = f s in
+    record { ending = r .ending; rounds = suc (r .rounds); passes = n + r .passes; queries = qs ++ r .queries }
 carry n qs (done s) f = record { ending = ended s; rounds = 1; passes = n; queries = qs }
 carry n qs (refuse x) f = record { ending = refused x; rounds = 1; passes = n; queries = qs }
 

@@ -22,7 +22,14 @@ use Rattle.wcs_refine.specs.declared.rounds.Trimmed.{Trimmed}
 
 -- A state at another pose.
 abbrev pub posed : Held → Pose → Held
-posed h p = record { pose = p; used = h .used; filled = h .filled; boresight = h .boresight; theta = h .theta; cached = h .cached }
+posed h p = record {
+  pose = p;
+  used = h .used;
+  filled = h .filled;
+  boresight = h .boresight;
+  theta = h .theta;
+  cached = h .cached;
+}
 
 -- Whether the rounds end with a verdict, and the number of its refusal, else 0.
 unfoldable pub stopped : Verdict → Bool
@@ -50,7 +57,8 @@ pub record TrimmedTo (k : Settings) (spots directions : List Float) (p : Pose) (
 -- What phases B to D come to, from the pose of the state h.
 abbrev pub restOf : Settings → ℕ → List Float → List Float → Held → List ℕ → Found
 restOf k n spots directions h l =
-    rest (fixedOf k) spots directions (h .pose) (heldMatches h l) (heldCache n h l) (residualsAt k spots directions (h .pose) (heldMatches h l))
+    rest (fixedOf k) spots directions (h .pose) (heldMatches h l) (heldCache n h l)
+    (residualsAt k spots directions (h .pose) (heldMatches h l))
 
 -- The code's phases B to D, from the state h, are those of the definition.
 pub record RestTo (k : Settings) (n : ℕ) (spots directions : List Float) (h : Held) (before after : List ℕ)

@@ -60,7 +60,9 @@ Beyond a i = a .given .limit ≤ i
 
 -- "no farther by the run's distance than some unchanged spot"
 abbrev pub NoFarther : Call → Call → ℕ → Type 0
-NoFarther a b i = (k : ℕ) × (k < spotCount a) × SpotUnchanged a b k × T (le (distance (spotAt (a .spots) i)) (distance (spotAt (a .spots) k)))
+NoFarther a b i =
+    (k : ℕ) × (k < spotCount a) × SpotUnchanged a b k
+    × T (le (distance (spotAt (a .spots) i)) (distance (spotAt (a .spots) k)))
 
 -- A direction is unseen in a call when no starting match names it and no cone query of the call lists it.
 pub record DirectionUnseen (a : Call) (j : ℕ) : Type 0 where
@@ -87,4 +89,6 @@ UnseenChangesNothing = (a b : Call) → Alike a b → OnlyUnseen a b → outcome
 
 -- The same of the code, whose contract is `Answers`: two such calls hand back the same, and leave every list that they write to alike.
 abbrev pub CallsAgree : Type 0
-CallsAgree = (a b : Call) (r s : WcsRefineResult) (l m : Lent) → Alike a b → OnlyUnseen a b → Answers a r l → Answers b s m → (r ≡ s) × (l ≡ m)
+CallsAgree =
+    (a b : Call) (r s : WcsRefineResult) (l m : Lent) → Alike a b → OnlyUnseen a b → Answers a r l → Answers b s m
+    → (r ≡ s) × (l ≡ m)
