@@ -1,4 +1,4 @@
--- Where the loop ends: in a state with no more matches than the start, or than spots within the limit, or with refusal 12 or 13. Assumes nothing.
+-- Where the loop ends: in a state with no more matches than the start, or than spots within the limit, or with a refusal. Assumes nothing.
 use mathlib.Core.Path.{_≡_, refl}
 use mathlib.Core.Bool.{Bool, true, false, not, _&&_}
 use mathlib.Core.List.{List, []}
@@ -46,7 +46,7 @@ module _ (k : Fixed) (spots directions : List Float) (m : ℕ) (room : 2 * min (
   abbrev Small : Next → Type 0
   Small (go s) = length (s .matches) ≤ m
   Small (done s) = length (s .matches) ≤ m
-  Small (refuse x) = 12 ≤ x
+  Small (refuse x) = Unit {0}
 
   settled-small : (p : Pose) (ms : List ℕ) (c : Cache) (new : List ℕ) → length ms ≤ m → length new ≤ m → Small (settled p ms c new)
   unfolding settled
@@ -58,7 +58,7 @@ module _ (k : Fixed) (spots directions : List Float) (m : ℕ) (room : 2 * min (
   associated-small p ms c r qs h =
       let new = renamed qs (matchesOf spots (k .limit) (laid qs) (r ⊗ r)) in
       let few : length new ≤ m = omega (arith, few-matches spots (k .limit) (laid qs) (r ⊗ r), length-renamed qs (matchesOf spots (k .limit) (laid qs) (r ⊗ r)), room) in
-      either Small (ltb (k .capacity) (length (pairs spots (k .limit) (laid qs) (r ⊗ r)))) (refuse 13) (settled p ms c new) (omega arith) (settled-small p ms c new h few)
+      either Small (ltb (k .capacity) (length (pairs spots (k .limit) (laid qs) (r ⊗ r)))) (refuse 13) (settled p ms c new) tt (settled-small p ms c new h few)
 
   fresh-small : (p : Pose) (ms : List ℕ) (r : Float) (listed : List ℕ) → length ms ≤ m → Small (fresh k spots directions p ms r listed .next)
   unfolding fresh
@@ -88,9 +88,8 @@ module _ (k : Fixed) (spots directions : List Float) (m : ℕ) (room : 2 * min (
   unfolding fitted
   fitted-small s rs f h =
       let x = residuals (viewOf (f .pose) (k .cut)) rs in
-      let twelve : Small (refuse 12) = omega arith in
       either (λ (y : Found). Small (y .next)) (f .fine) (rest k spots directions (f .pose) (s .matches) (s .cache) x) (record { next = refuse 12; queries = [] })
-      (rest-small (f .pose) (s .matches) (s .cache) x h) twelve
+      (rest-small (f .pose) (s .matches) (s .cache) x h) tt
 
   round-small : (s : State) → length (s .matches) ≤ m → Small (round k spots directions s .found .next)
   unfolding round
@@ -99,7 +98,7 @@ module _ (k : Fixed) (spots directions : List Float) (m : ℕ) (room : 2 * min (
   -- ---- the loop
 
   abbrev pub Ends : Ending → Type 0
-  Ends (refused x) = 12 ≤ x
+  Ends (refused x) = Unit {0}
   Ends (ended s) = length (s .matches) ≤ m
 
   carry-ends : (n : ℕ) (qs : List (List ℕ)) (x : Next) (f : State → Run) → Small x → ((s : State) → length (s .matches) ≤ m → Ends (f s .ending)) → Ends (carry n qs x f .ending)
