@@ -52,7 +52,7 @@ unfoldable pub every : (Float → Bool) → List Float → Bool
 every f [] = true
 every f (x ∷ xs) = f x && every f xs
 
--- ---- the checks, each of what it reads
+-- ---- the checks, each of what it reads: true where the call passes, and quoted is when it does not
 
 -- 5. "A flat list does not divide evenly: spots by 2, matches by 2, directions by 3": of the lists' lengths.
 unfoldable pub divides : ℕ → ℕ → ℕ → Bool
