@@ -19,6 +19,8 @@ pub struct Plan {
     pub middle: [f64; 2],
     pub half: f64,
     pub radius: f64,
+    /// The width along x of where spots lie, and of where directions without a spot do, as a part of the height: 0 puts all on one x.
+    pub breadth: [f64; 2],
     /// Directions with a spot, spots without a direction, directions in the
     /// field without a spot, and directions anywhere.
     pub pairs: usize,
@@ -53,6 +55,7 @@ impl Plan {
             middle: [0.0, 0.0],
             half,
             radius,
+            breadth: [1.0; 2],
             pairs,
             strays: r.whole(0, SPOTS - pairs),
             dark: r.whole(0, 60),
@@ -73,16 +76,16 @@ impl Plan {
         let mut spots = Vec::new();
         let mut directions = Vec::new();
         for i in 0..self.pairs {
-            let [x, y] = self.place(r);
+            let [x, y] = self.place(r, self.breadth[0]);
             directions.push(direction(&self.attitude, self.scale * x, self.scale * y));
             let off = if i < self.outliers { self.far_off } else { self.noise };
             spots.push([x + off * r.normal(), y + off * r.normal()]);
         }
         for _ in 0..self.strays {
-            spots.push(self.place(r));
+            spots.push(self.place(r, self.breadth[0]));
         }
         for _ in 0..self.dark {
-            let [x, y] = self.place(r);
+            let [x, y] = self.place(r, self.breadth[1]);
             directions.push(direction(&self.attitude, self.scale * x, self.scale * y));
         }
         for _ in 0..self.elsewhere {
@@ -112,8 +115,9 @@ impl Plan {
         }
     }
 
-    fn place(&self, r: &mut Rng) -> [f64; 2] {
-        self.middle.map(|m| m + r.between(-self.half, self.half))
+    fn place(&self, r: &mut Rng, breadth: f64) -> [f64; 2] {
+        let [x, y] = self.middle.map(|_| r.between(-self.half, self.half));
+        [self.middle[0] + breadth * x, self.middle[1] + y]
     }
 }
 
