@@ -36,7 +36,9 @@ use Rattle.wcs_refine.specs.Call.{Answer, no, ok, start, runOf, queries, querie
 -- ---- the passes of the fit
 
 -- One pass over the rows rs from the pose p: the view, the sums, the solution, and the pose q that it moves to, sound or not, at rest or not.
-pub record Pass (cut : Float) (rs : List Row) (p : Pose) (w : View) (t : Counted) (a b c : Float) (q : Pose) (whole rests : Bool) : Type 0 where
+pub record Pass
+    (cut : Float) (rs : List Row) (p : Pose) (w : View) (t : Counted) (a b c : Float) (q : Pose) (whole rests : Bool)
+    : Type 0 where
   pub enough : ltb (length rs) 3 ≡ false
   pub view : viewOf p cut ≡ w
   pub sums : withRows true w noMatches rs ≡ t
@@ -55,7 +57,8 @@ module _ {cut : Float} {rs : List Row} {p : Pose} {w : View} {t : Counted} {a b 
   unfolding fitPasses passed lsFitOnce
   one-pass n h =
       let next : Pose → Passes = λ u. fitPasses n cut rs u in
-      (λ i. cond (h .enough i) (passesOf p 0 true) (passed p (solvedSums (withRows true (h .view i) noMatches rs)) next))
+      (λ i. cond (h .enough i) (passesOf p 0 true)
+      (passed p (solvedSums (withRows true (h .view i) noMatches rs)) next))
       ∙ (λ i. passed p (solvedSums (h .sums i)) next)
       ∙ (λ i. passed p (h .solution i) next)
       ∙ (λ i. goesOn (sound (h .pose i)) (still a b c) (h .pose i) next)
@@ -66,7 +69,8 @@ module _ {cut : Float} {rs : List Row} {p : Pose} {w : View} {t : Counted} {a b 
   unfolding goesOn
   last-pass n h = one-pass n h
 
-  pub unsound-pass : {rests : Bool} (n : ℕ) → Pass cut rs p w t a b c q false rests → fitPasses (suc n) cut rs p ≡ passesOf q 1 false
+  pub unsound-pass :
+      {rests : Bool} (n : ℕ) → Pass cut rs p w t a b c q false rests → fitPasses (suc n) cut rs p ≡ passesOf q 1 false
   unfolding goesOn
   unsound-pass n h = one-pass n h
 
@@ -76,9 +80,11 @@ module _ {cut : Float} {rs : List Row} {p : Pose} {w : View} {t : Counted} {a b 
   next-pass n h e = one-pass n h ∙ (λ i. passesOf (e i .pose) (suc (e i .passes)) (e i .fine))
 
 -- Fewer than three rows have no pass.
-pub no-pass : (n : ℕ) (cut : Float) (rs : List Row) (p : Pose) → ltb (length rs) 3 ≡ true → fitPasses (suc n) cut rs p ≡ passesOf p 0 true
+pub no-pass : (n : ℕ) (cut : Float) (rs : List Row) (p : Pose) → ltb (length rs) 3 ≡ true
+    → fitPasses (suc n) cut rs p ≡ passesOf p 0 true
 unfolding fitPasses
-no-pass n cut rs p h = λ i. cond (h i) (passesOf p 0 true) (passed p (lsFitOnce (viewOf p cut) rs) (λ u. fitPasses n cut rs u))
+no-pass n cut rs p h =
+    λ i. cond (h i) (passesOf p 0 true) (passed p (lsFitOnce (viewOf p cut) rs) (λ u. fitPasses n cut rs u))
 
 -- ---- the search
 
@@ -102,7 +108,8 @@ abbrev pub ranOf : Ending → ℕ → ℕ → List (List ℕ) → Run
 ranOf e r n q = record { ending = e; rounds = r; passes = n; queries = q }
 
 -- A fresh query at the pose p, what is cached of it, the predictions, and what the matcher comes to.
-pub record Queried (k : Fixed) (spots directions : List Float) (p : Pose) (ms : List ℕ) (r : Float) (b axis : List Float) (c : Float)
+pub record Queried (k : Fixed) (spots directions : List Float) (p : Pose) (ms : List ℕ) (r : Float)
+    (b axis : List Float) (c : Float)
     (listed : List ℕ) (m : List (List Float)) (near : List ℕ) (qs : List Prediction) (x : Next) : Type 0 where
   pub centre : boresight (p .ra) (p .dec) ≡ b
   pub narrow : axis32 b ≡ axis
@@ -113,7 +120,8 @@ pub record Queried (k : Fixed) (spots directions : List Float) (p : Pose) (ms : 
   pub places : predictions k directions m listed ≡ qs
   pub matcher : associated k spots p ms (full b (p .theta) near) r qs ≡ x
 
-module _ {k : Fixed} {spots directions : List Float} {p : Pose} {ms : List ℕ} {r : Float} {b axis : List Float} {c : Float}
+module _ {k : Fixed} {spots directions : List Float} {p : Pose} {ms : List ℕ} {r : Float} {b axis : List Float}
+    {c : Float}
     {listed : List ℕ} {m : List (List Float)} {near : List ℕ} {qs : List Prediction} {x : Next}
     (h : Queried k spots directions p ms r b axis c listed m near qs x) where
   fresh-found : fresh k spots directions p ms r (query k directions p) ≡ foundOf x (listed ∷ [])
@@ -139,7 +147,8 @@ module _ {k : Fixed} {spots directions : List Float} {p : Pose} {ms : List ℕ} 
   new-search b0 t0 l0 d = (λ i. reused k spots directions p ms r b0 t0 l0 (d i)) ∙ fresh-found
 
 -- A search by the query that is cached, from which the pose p has not drifted.
-pub record Reused (k : Fixed) (spots directions : List Float) (p : Pose) (ms : List ℕ) (r : Float) (b : List Float) (t : Float) (listed : List ℕ)
+pub record Reused (k : Fixed) (spots directions : List Float) (p : Pose) (ms : List ℕ) (r : Float) (b : List Float)
+    (t : Float) (listed : List ℕ)
     (m : List (List Float)) (qs : List Prediction) (x : Next) : Type 0 where
   pub near : drifted k p b t ≡ false
   pub camera : cameraRows (p .theta) (p .ra) (p .dec) ≡ m
@@ -147,7 +156,9 @@ pub record Reused (k : Fixed) (spots directions : List Float) (p : Pose) (ms : L
   pub matcher : associated k spots p ms (full b t listed) r qs ≡ x
 
 -- The search with what is cached.
-pub same-search : {k : Fixed} {spots directions : List Float} {p : Pose} {ms : List ℕ} {r : Float} {b : List Float} {t : Float} {listed : List ℕ}
+pub same-search :
+    {k : Fixed} {spots directions : List Float} {p : Pose} {ms : List ℕ} {r : Float} {b : List Float} {t : Float}
+    {listed : List ℕ}
     {m : List (List Float)} {qs : List Prediction} {x : Next} → Reused k spots directions p ms r b t listed m qs x →
     searched k spots directions p ms r (full b t listed) ≡ foundOf x []
 unfolding searched reused
@@ -161,8 +172,11 @@ module _ (k : Fixed) (spots directions : List Float) where
   -- ---- the round
 
   -- The passes are fine, and the search comes to x.
-  pub whole-round : (s : State) {rs : List Row} {p : Pose} {n : ℕ} {w : View} {vs : List Float} {st : Statistics} {ms : List ℕ} {r : Float}
-      {x : Next} {q : List (List ℕ)} → rows spots directions (s .matches) ≡ rs → fitPasses 10 (k .cut) rs (s .pose) ≡ passesOf p n true →
+  pub whole-round :
+      (s : State) {rs : List Row} {p : Pose} {n : ℕ} {w : View} {vs : List Float} {st : Statistics} {ms : List ℕ}
+      {r : Float}
+      {x : Next} {q : List (List ℕ)} → rows spots directions (s .matches) ≡ rs
+      → fitPasses 10 (k .cut) rs (s .pose) ≡ passesOf p n true →
       Measured k rs p (s .matches) w vs st ms r →
       searched k spots directions p ms r (s .cache) ≡ foundOf x q → round k spots directions s ≡ roundOf x q n
   unfolding round fitted rest
@@ -183,21 +197,25 @@ module _ (k : Fixed) (spots directions : List Float) where
       round k spots directions s ≡ roundOf (refuse 12) [] n
   unfolding round fitted
   unsound-round s {rs} e f =
-      (λ i. fitted k spots directions s (e i) (fitPasses 10 (k .cut) (e i) (s .pose))) ∙ (λ i. fitted k spots directions s rs (f i))
+      (λ i. fitted k spots directions s (e i) (fitPasses 10 (k .cut) (e i) (s .pose))) ∙
+      (λ i. fitted k spots directions s rs (f i))
 
   -- ---- the loop
 
   -- A round after which the loop goes on, is done or refuses, and the loop with no round left.
   one-round : (n : ℕ) (s : State) {x : Next} {q : List (List ℕ)} {m : ℕ} →
-      round k spots directions s ≡ roundOf x q m → loop k spots directions (suc n) s ≡ carry m q x (λ t. loop k spots directions n t)
+      round k spots directions s ≡ roundOf x q m → loop k spots directions (suc n) s
+      ≡ carry m q x (λ t. loop k spots directions n t)
   unfolding loop
   one-round n s e = λ i. carry (e i .passes) (e i .found .queries) (e i .found .next) (λ t. loop k spots directions n t)
 
-  pub go-round : (n : ℕ) (s : State) {t : State} {q : List (List ℕ)} {m : ℕ} {z : Ending} {r l : ℕ} {u : List (List ℕ)} →
+  pub go-round :
+      (n : ℕ) (s : State) {t : State} {q : List (List ℕ)} {m : ℕ} {z : Ending} {r l : ℕ} {u : List (List ℕ)} →
       round k spots directions s ≡ roundOf (go t) q m → loop k spots directions n t ≡ ranOf z r l u →
       loop k spots directions (suc n) s ≡ ranOf z (suc r) (m + l) (q ++ u)
   unfolding carry
-  go-round n s {t} {q} {m} e f = one-round n s e ∙ (λ i. ranOf (f i .ending) (suc (f i .rounds)) (m + f i .passes) (q ++ f i .queries))
+  go-round n s {t} {q} {m} e f =
+      one-round n s e ∙ (λ i. ranOf (f i .ending) (suc (f i .rounds)) (m + f i .passes) (q ++ f i .queries))
 
   pub done-round : (n : ℕ) (s : State) {t : State} {q : List (List ℕ)} {m : ℕ} →
       round k spots directions s ≡ roundOf (done t) q m → loop k spots directions (suc n) s ≡ ranOf (ended t) 1 m q
@@ -216,12 +234,14 @@ module _ (k : Fixed) (spots directions : List Float) where
   -- ---- the closing
 
   -- Fewer than six matches are not clipped.
-  pub no-clip : (n : ℕ) (p : Pose) (ms : List ℕ) → ltb (length ms / 2) 6 ≡ true → cleaned k spots directions (suc n) p ms ≡ fine p ms
+  pub no-clip : (n : ℕ) (p : Pose) (ms : List ℕ) → ltb (length ms / 2) 6 ≡ true
+      → cleaned k spots directions (suc n) p ms ≡ fine p ms
   unfolding cleaned
   no-clip n p ms h = rw h
 
 -- A clip of the matches ms at the pose p: what it answers, and the matches afterwards.
-pub record Clipping (k : Fixed) (spots directions : List Float) (p : Pose) (ms : List ℕ) (rs : List Row) (w : View) (vs : List Float)
+pub record Clipping (k : Fixed) (spots directions : List Float) (p : Pose) (ms : List ℕ) (rs : List Row) (w : View)
+    (vs : List Float)
     (st : MedianSigma) (c : Clip) (new : List ℕ) : Type 0 where
   pub enough : ltb (length ms / 2) 6 ≡ false
   pub looked : rows spots directions ms ≡ rs
@@ -231,7 +251,8 @@ pub record Clipping (k : Fixed) (spots directions : List Float) (p : Pose) (ms :
   pub clip : madClipMatches vs ms (st .median) (st .sigma) ≡ record { answer = c; matches = new }
 
 -- The fit on the matches that a clip has kept.
-pub record Refit (k : Fixed) (spots directions : List Float) (p : Pose) (kept : List ℕ) (rs : List Row) (w : View) (t : Counted) (a b c : Float)
+pub record Refit (k : Fixed) (spots directions : List Float) (p : Pose) (kept : List ℕ) (rs : List Row) (w : View)
+    (t : Counted) (a b c : Float)
     (q : Pose) : Type 0 where
   pub looked : rows spots directions kept ≡ rs
   pub view : viewOf p (k .cut) ≡ w
@@ -240,9 +261,11 @@ pub record Refit (k : Fixed) (spots directions : List Float) (p : Pose) (kept : 
   pub pose : moved p a b c ≡ q
   pub soundness : sound q ≡ true
 
-module _ {k : Fixed} {spots directions : List Float} {p : Pose} {ms : List ℕ} {rs : List Row} {w : View} {vs : List Float} {st : MedianSigma} where
+module _ {k : Fixed} {spots directions : List Float} {p : Pose} {ms : List ℕ} {rs : List Row} {w : View}
+    {vs : List Float} {st : MedianSigma} where
   one-clip : {c : Clip} {new : List ℕ} (n : ℕ) → Clipping k spots directions p ms rs w vs st c new →
-      cleaned k spots directions (suc n) p ms ≡ recleaned k spots directions p ms c new (λ q kept. cleaned k spots directions n q kept)
+      cleaned k spots directions (suc n) p ms
+      ≡ recleaned k spots directions p ms c new (λ q kept. cleaned k spots directions n q kept)
   unfolding cleaned cleanedBy
   one-clip n h =
       let after : Pose → List ℕ → Closed = λ q kept. cleaned k spots directions n q kept in
@@ -259,8 +282,11 @@ module _ {k : Fixed} {spots directions : List Float} {p : Pose} {ms : List ℕ} 
   unfolding recleaned
   last-clip n h = one-clip n h
 
-  pub next-clip : {j : ℕ} {new kept : List ℕ} {rs' : List Row} {w' : View} {t : Counted} {a b c : Float} {q : Pose} {z : Closed} (n : ℕ) →
-      Clipping k spots directions p ms rs w vs st (Kept j) new → taken (Kept j) ms new ≡ kept → Refit k spots directions p kept rs' w' t a b c q →
+  pub next-clip :
+      {j : ℕ} {new kept : List ℕ} {rs' : List Row} {w' : View} {t : Counted} {a b c : Float} {q : Pose} {z : Closed}
+      (n : ℕ) →
+      Clipping k spots directions p ms rs w vs st (Kept j) new → taken (Kept j) ms new ≡ kept
+      → Refit k spots directions p kept rs' w' t a b c q →
       cleaned k spots directions n q kept ≡ z → cleaned k spots directions (suc n) p ms ≡ z
   unfolding recleaned refitted lsFitOnce ifSound
   next-clip {kept = kept} {q = q} n h l f e =
@@ -297,7 +323,8 @@ whole-report {k} {p} {rs} {w} {vs} {sum} {t} {cd} {rms} {cov} ms h =
     let by : List Float → Float → Counted → Report = λ v s m.
     reportOf p (cdFromTheta (p .theta) (k .scale) (k .mirror)) (rootMean s v)
     (covarianceFromNormal (m .sums .ata0 ∷ m .sums .ata1 ∷ m .sums .ata2 ∷ []) s (m .n)) ms in
-    (λ i. by (inFront (residuals (h .view i) rs)) (sumSquares (inFront (residuals (h .view i) rs)) zero64) (normalMatrix (h .view i) rs))
+    (λ i. by (inFront (residuals (h .view i) rs)) (sumSquares (inFront (residuals (h .view i) rs)) zero64)
+    (normalMatrix (h .view i) rs))
     ∙ (λ i. by (h .values i) (sumSquares (h .values i) zero64) (h .normal i))
     ∙ (λ i. by vs (h .squares i) t)
     ∙ (λ i. reportOf p (h .matrix i) (h .mean i) (h .spread i) ms)
@@ -330,13 +357,15 @@ module _ {c : Call} {k : Fixed} {s : State} (h : Begun c k s) where
   outcome-of e = λ i. record { answer = e i; lent = left (c .given .lent) (h .accepted i) (e i) }
 
   -- A refusal of the run is the call's.
-  pub refused-call : {y r n : ℕ} {q : List (List ℕ)} → loop k (c .spots) (c .directions) (c .given .rounds) s ≡ ranOf (refused y) r n q →
-      outcome c ≡ outcomeOf c (no y)
+  pub refused-call :
+      {y r n : ℕ} {q : List (List ℕ)} → loop k (c .spots) (c .directions) (c .given .rounds) s ≡ ranOf (refused y) r n q
+      → outcome c ≡ outcomeOf c (no y)
   unfolding answer finished
   refused-call e = outcome-of ((λ i. answerAfter c (h .accepted i)) ∙ (λ i. finished c (ran e i .ending) (ran e i)))
 
   -- An accepted call reports on what the closing leaves.
-  pub accepted-call : {t : State} {r n : ℕ} {q : List (List ℕ)} {p : Pose} {ms : List ℕ} {rs : List Row} {w : View} {vs : List Float}
+  pub accepted-call :
+      {t : State} {r n : ℕ} {q : List (List ℕ)} {p : Pose} {ms : List ℕ} {rs : List Row} {w : View} {vs : List Float}
       {sum : Float} {m : Counted} {cd : List (List Float)} {rms : Float} {cov : List (List Float)} →
       loop k (c .spots) (c .directions) (c .given .rounds) s ≡ ranOf (ended t) r n q →
       cleaned k (c .spots) (c .directions) 3 (t .pose) (t .matches) ≡ fine p ms →

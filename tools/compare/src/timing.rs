@@ -86,7 +86,7 @@ fn wide(degrees: f64, sizes: [usize; 4], wanted: usize) {
             continue;
         }
         found[look.counts[0] as usize - 2] += 1;
-        if let Some(t) = time(&bytes, 2048, 2000) {
+        if let Some(t) = time(&bytes, 2048, 20_000) {
             let seen = sizes[0] + sizes[2];
             say(&format!("64 / 256, field of {degrees} degrees with {seen} directions"), item, [64, 256], &t);
         }
@@ -120,12 +120,13 @@ fn layouts(spots: usize, directions: usize, runs: usize) {
 
 /// The sizes that have a goal, wide fields, and layouts for which strips do not help.
 pub fn sizes() {
-    times("64 / 256", [48, 16, 100, 108], 2048, 12, 2000);
+    times("64 / 256", [48, 16, 100, 108], 2048, 12, 20_000);
     for degrees in [30.0, 60.0] {
         wide(degrees, [48, 16, 100, 108], 3);
-        wide(degrees, [48, 16, 8, 200], 3);
+        wide(degrees, [48, 16, 0, 208], 3);
+        wide(degrees, [12, 52, 0, 244], 3);
     }
-    layouts(64, 256, 2000);
+    layouts(64, 256, 20_000);
     layouts(1024, 4096, 20);
     layouts(4096, 65_536, 1);
     times("4,096 / 65,536, whole sphere", [3000, 1096, 2000, 60_536], 1 << 20, 3, 5);
