@@ -6,8 +6,7 @@ use Prim.Native.Nat.{ℕ, zero, suc, min, _≤_, _<_}
 use native.Mathlib.Omega.{arith}
 use borrow.Author.Tests.{lt-ltb, le-ltb}
 use lib.Dec.{ltb}
-use lib.ListN.{length, replicate}
-use Rattle.rounding.specs.Arith.{zero64}
+use lib.ListN.{length}
 use Rattle.entry.specs.Arguments.{Lent}
 use Rattle.wcs_refine.specs.Call.{outcome}
 use Rattle.wcs_refine.specs.Returned.{Returned, returned}
@@ -16,7 +15,7 @@ use Rattle.record.specs.Header.{Intake, readRecord}
 use Rattle.printing.specs.Text.{refusedText, answerText, setFrom}
 use Rattle.response.specs.Response.{Response, asked, reportedBy, answered, turnedAway, response, responseTo}
 use Rattle.response.specs.Lawful.{answerTo}
-use Rattle.response.specs.Program.{heldSpots, heldMatches, heldDirections, programLent, programText}
+use Rattle.response.specs.Program.{programLent, programText}
 use Rattle.response.specs.Unseen.{OnlyUnseenRead, UnseenShowsNothing, RecordsAgree, ProgramShowsNothing}
 
 -- What shows of a response.
@@ -66,4 +65,4 @@ records-agree a b spots matches directions lent l m n k out outA outB sa sb ma m
 
 pub program-shows-nothing : ProgramShowsNothing
 unfolding programText
-program-shows-nothing a b p = unseen-shows-nothing a b _ _ _ programLent p .0
+program-shows-nothing a b p = shown _ _ programLent p .0

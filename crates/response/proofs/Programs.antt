@@ -24,7 +24,7 @@ pub printed-alone : (bytes : List ℕ) {n : ℕ} {before after : List ℕ} {ss :
     → Printed (responseTo bytes (replicate (2 * heldSpots) zero64) (replicate (2 * heldMatches) 0) (replicate (3 * heldDirections) (ofBits binary32 0)) programLent)
     n before after ss ms ds left
     → (n ≡ min (length (programText bytes)) (length before)) × (after ≡ setFrom 0 (programText bytes) before)
-unfolding programText
+unfolding programText responseTo
 printed-alone bytes {n} {before} {after} {ss} {ms} {ds} {left} p =
     let q = subst (λ (z : Float). Printed (responseTo bytes (replicate (2 * heldSpots) zero64) (replicate (2 * heldMatches) 0) (replicate (3 * heldDirections) z) programLent) n before after ss ms ds left) single-zero p in
     (q .count, q .out)

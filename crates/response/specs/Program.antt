@@ -9,8 +9,8 @@ use Rattle.entry.specs.Arguments.{Lent}
 use Rattle.entry.specs.Check.{refusal}
 use Rattle.wcs_refine.specs.Returned.{lists}
 use Rattle.record.specs.Reading.{mostBytes}
-use Rattle.record.specs.Header.{Intake}
-use Rattle.response.specs.Response.{asked, responseTo}
+use Rattle.record.specs.Header.{Intake, readRecord}
+use Rattle.response.specs.Response.{asked, response}
 
 -- 01: "It holds 64 spots, 64 matches, 256 directions, 4,096 candidate distances and 8,192 candidate indices; a record free of 1 to 4 that counts more
 -- prints `no 11` without a call."
@@ -42,20 +42,23 @@ programLent =
     lists (replicate heldWork 0) (replicate heldWork zero64)
     (replicate heldDistances zero64) (replicate heldIndices 0) (replicate heldResult 0)
 
+-- What the program holds once it has read a record.
+abbrev pub programIntake : List ℕ → Intake
+programIntake bytes =
+    readRecord bytes
+    (replicate (2 * heldSpots) zero64) (replicate (2 * heldMatches) 0) (replicate (3 * heldDirections) zero64)
+
 -- What the program prints of the bytes that it reads.
 unfoldable pub programText : List ℕ → List ℕ
-unfolding programLent
-programText bytes =
-    responseTo bytes
-    (replicate (2 * heldSpots) zero64) (replicate (2 * heldMatches) 0) (replicate (3 * heldDirections) zero64)
-    programLent .text
+unfolding response programLent
+programText bytes = response (programIntake bytes) programLent .text
 
 -- The room for reading: one byte more than a record may have, so that a longer input is seen to be too long.
 abbrev pub roomBytes : ℕ
 roomBytes = suc mostBytes
 
--- The program's own lists are long enough for all that it holds: no call that a record asks for is refused with 11, so `no 11` is printed only where
--- a record counts more than is held.
+-- The program's own lists are long enough for all that it holds: whatever its lists of spots, matches and directions were filled with, no call on
+-- them is refused with 11. So its `no 11` comes from the reader, of a record that counts more than is held.
 abbrev pub NeverShort : Type 0
 NeverShort =
     (i : Intake)

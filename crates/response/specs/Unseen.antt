@@ -1,16 +1,14 @@
 -- Demand 3 of records: nothing unseen shows in the text. Definitions only; the proofs are in proofs/Agreeing.antt. Assumes nothing.
 use mathlib.Core.Path.{_≡_}
-use Prim.Native.Nat.{ℕ, _*_}
+use Prim.Native.Nat.{ℕ}
 use mathlib.Core.List.{List}
-use lib.ListN.{replicate}
 use lib.Ieee.{Float}
-use Rattle.rounding.specs.Arith.{zero64}
 use Rattle.entry.specs.Arguments.{Lent}
 use Rattle.wcs_refine.specs.Unseen.{Alike, OnlyUnseen}
 use Rattle.record.specs.Header.{Intake, readRecord}
 use Rattle.response.specs.Response.{asked, responseTo}
 use Rattle.response.specs.Printed.{Printed}
-use Rattle.response.specs.Program.{heldSpots, heldMatches, heldDirections, programLent, programText}
+use Rattle.response.specs.Program.{programLent, programIntake, programText}
 
 -- Two records, read into the same lists, differ only in what is unseen: both are refused with the same number, or the calls that they ask for are
 -- alike in all but unseen directions and spots.
@@ -39,13 +37,7 @@ RecordsAgree =
     → Printed (responseTo b spots matches directions lent) k out outB spotsB matchesB directionsB m
     → (n ≡ k) × (outA ≡ outB) × (l ≡ m)
 
--- What the program `refine` holds once it has read a record.
-abbrev pub programIntake : List ℕ → Intake
-programIntake bytes =
-    readRecord bytes
-    (replicate (2 * heldSpots) zero64) (replicate (2 * heldMatches) 0) (replicate (3 * heldDirections) zero64)
-
--- The same of the program.
+-- The same of the program `refine`.
 abbrev pub ProgramShowsNothing : Type 0
 ProgramShowsNothing =
     (a b : List ℕ) → OnlyUnseenRead (programIntake a) (programIntake b) programLent → programText a ≡ programText b
