@@ -32,7 +32,8 @@ use Rattle.query.specs.Query.{Cache, empty, full, axis32, leastCos, scanned, dr
 use Rattle.wcs_refine.specs.Round.{State, Next, go, done, refuse, associated, Run, Ending, refused, ended, loop, round}
 use Rattle.wcs_refine.specs.Closing.{fine, cleaned, sumSquares, rootMean}
 use Rattle.wcs_refine.specs.Call.{Outcome, no, ok, left, outcome, queries}
-use Rattle.calls.specs.Arithmetic.{arithmetic, checks}
+use Rattle.rounding.specs.Computed.{arithmetic}
+use Rattle.calls.specs.Computed.{checks}
 use Rattle.calls.specs.Steps.{Pass, last-pass, unsound-pass, next-pass, no-pass, passesOf, Measured, Queried, first-search, new-search}
 use Rattle.calls.specs.Steps.{whole-round, unsound-round, roundOf, go-round, done-round, refused-round, ranOf}
 use Rattle.calls.specs.Steps.{Reused, same-search, no-round, Clipping, Refit, last-clip, next-clip}
@@ -307,6 +308,6 @@ def main(names):
     top += '\n-- Every row holds.\npub calls : All rows\ncalls = %stt%s\n' % (''.join('(%s-holds, ' % n for n, m, a, r in done), ')' * len(done))
     with open(os.path.join(PLACE, 'Calls.antt'), 'w') as f: f.write(top)
     with open(os.path.join(PLACE, 'Lib.antt'), 'w') as f:
-        f.write(''.join('pub mod %s\n' % m for m in ['Arithmetic', 'Instance', 'Queried', 'Steps'] + [m for n, m, a, r in done] + ['Calls']))
+        f.write(''.join('pub mod %s\n' % m for m in ['Computed', 'Instance', 'Queried', 'Steps'] + [m for n, m, a, r in done] + ['Calls']))
 
 if __name__ == '__main__': main(sys.argv[1:])

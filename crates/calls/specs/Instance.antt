@@ -20,7 +20,8 @@ use Rattle.entry.specs.Fixed.{distance}
 use Rattle.wcs_refine.specs.Associate.{links}
 use Rattle.wcs_refine.specs.Call.{Outcome, Answer, ok, outcome, queries}
 use Rattle.wcs_refine.specs.Unseen.{Alike, OnlyUnseen, SpotUnchanged, DirectionUnchanged, DirectionUnseen, SpotUnseen, Listed}
-use Rattle.calls.specs.Arithmetic.{arithmetic, everything}
+use Rattle.rounding.specs.Computed.{arithmetic}
+use Rattle.calls.specs.Computed.{everything}
 use Rattle.wcs_refine.proofs.TwoCalls.{unseen-changes-nothing}
 
 -- The camera looks along (1, 0, 0), at 2^-10 radians per pixel and with a radius of 2^-7. Only the first spot is within the matching limit, and

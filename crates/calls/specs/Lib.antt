@@ -1,4 +1,4 @@
-pub mod Arithmetic
+pub mod Computed
 pub mod Instance
 pub mod Queried
 pub mod Steps

@@ -26,7 +26,8 @@ use Rattle.query.specs.Query.{Cache, empty, full, axis32, leastCos, scanned, dr
 use Rattle.wcs_refine.specs.Round.{State, Next, go, done, refuse, associated, Run, Ending, refused, ended, loop, round}
 use Rattle.wcs_refine.specs.Closing.{fine, cleaned, sumSquares, rootMean}
 use Rattle.wcs_refine.specs.Call.{Outcome, no, ok, left, outcome, queries}
-use Rattle.calls.specs.Arithmetic.{arithmetic, checks}
+use Rattle.rounding.specs.Computed.{arithmetic}
+use Rattle.calls.specs.Computed.{checks}
 use Rattle.calls.specs.Steps.{Pass, last-pass, unsound-pass, next-pass, no-pass, passesOf, Measured, Queried, first-search, new-search}
 use Rattle.calls.specs.Steps.{whole-round, unsound-round, roundOf, go-round, done-round, refused-round, ranOf}
 use Rattle.calls.specs.Steps.{Reused, same-search, no-round, Clipping, Refit, last-clip, next-clip}

@@ -17,7 +17,8 @@ use Rattle.wcs_refine.specs.Associate.{links}
 use Rattle.wcs_refine.specs.Call.{Outcome, no, outcome, queries}
 use Rattle.wcs_refine.specs.Unseen.{Alike, OnlyUnseen, SpotUnchanged, DirectionUnchanged, DirectionUnseen, SpotUnseen, Listed}
 use Rattle.wcs_refine.proofs.TwoCalls.{unseen-changes-nothing}
-use Rattle.calls.specs.Arithmetic.{arithmetic, everything}
+use Rattle.rounding.specs.Computed.{arithmetic}
+use Rattle.calls.specs.Computed.{everything}
 use Rattle.calls.specs.Instance.{with}
 
 -- 2^-10

@@ -1,36 +1,25 @@
 -- 01, "Cases, the starred ones proved": a record for each starred line, and one theorem, `cases`, that all of them hold. The check computes every
 -- row from the written meanings. Assumes nothing.
 use mathlib.Core.Path.{_≡_, refl}
-use mathlib.Core.Bool.{Bool, true, false, cond}
-use mathlib.Core.List.{List, [], _∷_, map}
+use mathlib.Core.Bool.{true, false}
+use mathlib.Core.List.{List, [], _∷_}
 use Prim.Native.Nat.{ℕ}
 use lib.IntN.{pos, negsuc}
-use lib.Count.{trailingZeros}
-use lib.Ieee.{Float, nan, inf, fin, binary32, binary64, add, sub, mul, div, neg, lt, le, eq, isNan, round, sum, units, odd, size, span, climb, ofFields, ofBits, toBits, ofInt, fits}
-use Rattle.rounding.specs.Arith.{f64, f32, zero64, one64, _⊗_}
-use Rattle.rounding.specs.Root.{root, rootOf, place, wholeRoot, rootDigits}
+use lib.Ieee.{Float, nan, fin, binary64, toBits}
+use Rattle.rounding.specs.Arith.{f64, zero64, one64, _⊗_}
+use Rattle.rounding.specs.Root.{root}
 use Rattle.rounding.specs.Narrow.{narrowed}
-use Rattle.rounding.specs.Methods.{absF, isFinite, totalKey, totalLe}
+use Rattle.rounding.specs.Computed.{arithmetic}
 use Rattle.stats.specs.Median.{medianMadSigma, middle, sorted, insert, deviations, madScale}
-use Rattle.stats.specs.declared.MedianSigma.{MedianSigma}
 use Rattle.pairs.specs.Pairs.{pairs, pairsFrom, pairsOf, within, squared, pointAt}
 use Rattle.matching.specs.Merge.{merged, mergeRuns, mergeNeighbours, merge, into, singles, notAfter}
-use Rattle.matching.specs.Greedy.{matchesOf, assigned, clashes, Match}
+use Rattle.matching.specs.Greedy.{matchesOf, assigned, clashes}
 use Rattle.solve.specs.Solve.{solve3x3, solvedFrom, substituted, divides, ifFinite, solutionX, solutionY, solutionZ, eliminated, reduced, minusFrom, swapped, usable, pivotOf, bestFrom, better, beside}
 use Rattle.residuals.specs.Residual.{madClipMatches, kept, keptFrom, keeps, thresholdOf, Clipped}
-use Rattle.solve.specs.declared.Solution.{Solution}
 use Rattle.solve.specs.declared.Solution.the-variants.{Solved, Failed}
-use Rattle.residuals.specs.declared.Clip.{Clip}
 use Rattle.residuals.specs.declared.Clip.the-variants.{Kept, Unchanged}
 use Rattle.record.specs.Number.{written, number}
-use Rattle.record.specs.declared.Numbered.{Numbered}
-use Rattle.record.specs.declared.Numbered.the-variants.{Got, Short, Wrong}
-
--- Named on an `unfolding` line, this opens the arithmetic of floats.
-unfoldable arithmetic : Float → Float
-unfolding root rootOf place wholeRoot rootDigits narrowed units odd round size span climb sum add sub mul div neg lt le eq isNan ofFields ofBits
-    toBits ofInt absF isFinite totalKey totalLe
-arithmetic x = x
+use Rattle.record.specs.declared.Numbered.the-variants.{Got, Wrong}
 
 -- Whole numbers as floats.
 abbrev f1 : Float

@@ -7,3 +7,4 @@ pub mod Table
 pub mod Methods
 pub mod Arith
 pub mod TotalOrder
+pub mod Computed
