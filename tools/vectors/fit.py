@@ -44,6 +44,10 @@ def inverse_projections(rng):
         yield "inverse_tan_project " + hex64(angle(rng, 0.2) for _ in range(4))
     for eta in (0.0, 1e-15, 9.9e-16, 1e-30, 1.0):  # both sides of 1e-30 for the squared offset
         yield "inverse_tan_project " + hex64(bits64(x) for x in (0.0, eta, 0.5, 1.0))
+    for dec in (1.5707963267948966, -1.5707963267948966, 1.5):  # straight over the pole and away from it, with xi a zero of either sign
+        for xi in (0.0, -0.0):
+            for eta in (0.5, -0.5):
+                yield "inverse_tan_project " + hex64(bits64(x) for x in (xi, eta, 0.5, dec))
 
 
 def rotations(rng):

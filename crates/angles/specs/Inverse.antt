@@ -2,7 +2,7 @@
 use Prim.Native.Nat.{ℕ}
 use mathlib.Core.Bool.{cond, _||_}
 use mathlib.Core.List.{List, [], _∷_}
-use lib.Ieee.{Float, nan, binary64, neg, lt, isNan}
+use lib.Ieee.{Float, nan, binary64, neg, lt, eq, isNan}
 use Rattle.rounding.specs.Arith.{_⊕_, _⊖_, _⊗_, _⊘_, zero64, one64}
 use Rattle.rounding.specs.Root.{root}
 use Rattle.rounding.specs.Methods.{absF, negative}
@@ -48,12 +48,18 @@ unfoldable pub asin : Float → Float
 unfolding atan root
 asin v = cond (lt one64 (absF v)) nan (atan (v ⊘ root binary64 ((one64 ⊖ v) ⊗ (one64 ⊕ v))))
 
--- x above 0, atan(y/x); below 0, that plus 3.141592653589793, or minus it where y is below 0; x zero, ±1.5707963267948966 by y,
--- and 0 where y is zero; NaN where either is NaN.
+-- 02, CR 6, of a zero y with x not above 0: "y minus zero with x negative or minus zero gives minus 3.141592653589793; y plus zero with x minus
+-- zero gives plus that; a zero y with x plus zero comes back itself." With x negative a plus zero gives plus that too, as 01 has it.
+abbrev pub zeroAngle : Float → Float → Float
+zeroAngle y x = cond (negative x) (cond (negative y) (neg pi) pi) y
+
+-- x above 0, atan(y/x); then a zero y, as above; x below 0, atan(y/x) plus 3.141592653589793, or minus it where y is below 0; x zero,
+-- ±1.5707963267948966 by y. NaN where either is NaN.
 unfoldable pub atan2 : Float → Float → Float
 unfolding atan
 atan2 y x =
     cond (isNan y || isNan x) nan
     (cond (lt zero64 x) (atan (y ⊘ x))
+    (cond (eq y zero64) (zeroAngle y x)
     (cond (lt x zero64) (cond (lt y zero64) (atan (y ⊘ x) ⊖ pi) (atan (y ⊘ x) ⊕ pi))
-    (cond (lt zero64 y) halfPi (cond (lt y zero64) (neg halfPi) zero64))))
+    (cond (lt zero64 y) halfPi (neg halfPi)))))

@@ -1,3 +1,4 @@
 pub mod Constants
 pub mod SinCos
 pub mod Inverse
+pub mod Special

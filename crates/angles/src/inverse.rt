@@ -1,7 +1,7 @@
 // The inverse functions. The angle is halved three times, by what that does to its tangent, so that the series needs few terms.
 ghost use mathlib.Core.Path.{_≡_};
 ghost use Rattle.rounding.specs.Arith.{_⊖_, _⊗_};
-ghost use Rattle.angles.specs.Inverse.{halved, series, atanSmall, atanMagnitude, atan, asin, atan2};
+ghost use Rattle.angles.specs.Inverse.{halved, series, atanSmall, atanMagnitude, atan, asin, zeroAngle, atan2};
 use rounding::abs;
 use rounding::is_nan;
 use rounding::is_negative;
@@ -77,7 +77,21 @@ pub fn asin(v: f64) -> f64
     }
 }
 
-// The angle of the direction (x, y). Zeros of either sign count as zero; NaN where either is NaN.
+// The angle of a direction with y a zero and x not above zero: half a turn where x is below zero or minus zero, with the sign of y. With x plus
+// zero there is no direction, and y comes back with its sign.
+fn zero_angle(y: f64, x: f64) -> f64
+    ensures { λ r. ⌜ r ≡ zeroAngle y x ⌝ }
+{
+    if is_negative(x) {
+        if is_negative(y) {
+            return -PI;
+        }
+        return PI;
+    }
+    y
+}
+
+// The angle of the direction (x, y), from minus to plus half a turn; a zero's sign says on which side of the cut it lies. NaN where either is NaN.
 pub fn atan2(y: f64, x: f64) -> f64
     ensures { λ r. ⌜ r ≡ atan2 y x ⌝ }
 {
@@ -90,14 +104,14 @@ pub fn atan2(y: f64, x: f64) -> f64
     if 0.0 < x {
         return atan(y / x);
     }
+    if y == 0.0 {
+        return zero_angle(y, x);
+    }
     if x < 0.0 {
         if y < 0.0 {
             return atan(y / x) - PI;
         }
         return atan(y / x) + PI;
     }
-    if 0.0 < y {
-        return HALF_PI;
-    }
-    if y < 0.0 { -HALF_PI } else { 0.0 }
+    if 0.0 < y { HALF_PI } else { -HALF_PI }
 }

@@ -1,5 +1,6 @@
-//! Document 01's angle functions. Built with `--cfg host_angles`, the same
-//! names are the host's own, to note where they differ.
+//! Document 01's angle functions, atan2 with request 6 of document 02. Built
+//! with `--cfg host_angles`, the same names are the host's own, to note where
+//! they differ.
 
 /// 2/pi, 0.6366197723675814.
 const TWO_OVER_PI: f64 = f64::from_bits(0x3FE4_5F30_6DC9_C883);
@@ -84,20 +85,20 @@ pub fn asin(v: f64) -> f64 {
     atan(v / ((1.0 - v) * (1.0 + v)).sqrt())
 }
 
+/// Document 01's, and for a zero `y` request 6 of document 02: the signs of
+/// zeros count, as IEEE 754 has it.
 pub fn atan2(y: f64, x: f64) -> f64 {
     if y.is_nan() || x.is_nan() {
         f64::NAN
     } else if x > 0.0 {
         atan(y / x)
+    } else if y == 0.0 {
+        if x.is_sign_negative() { HALF.copysign(y) } else { y }
     } else if x < 0.0 {
         let angle = atan(y / x);
         if y < 0.0 { angle - HALF } else { angle + HALF }
-    } else if y > 0.0 {
-        QUARTER
-    } else if y < 0.0 {
-        -QUARTER
     } else {
-        0.0
+        QUARTER.copysign(y)
     }
 }
 

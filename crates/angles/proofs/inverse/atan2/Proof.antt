@@ -32,31 +32,35 @@ returns-3 : tie.Need-returns-3
 unfolding atan2
 returns-3 c = rw (numbers (c .before .before), c .before .if3 .taken) (c .atan .ensures)
 
+zero-angle-requires : tie.Need-zero-angle-requires
+zero-angle-requires c κs = search needs
+
+-- a zero y, with x not above zero
+returns-4 : tie.Need-returns-4
+unfolding atan2
+returns-4 c = rw (numbers (c .before .before .before), c .before .before .if3 .left, c .before .if4 .taken, c .zero-angle .ensures)
+
 atan-requires-2 : tie.Need-atan-requires-2
 atan-requires-2 c κs = search needs
 
-returns-4 : tie.Need-returns-4
+returns-5 : tie.Need-returns-5
 unfolding atan2
-returns-4 c = rw (numbers (c .before .before .before .before), c .before .before .before .if3 .left, c .before .before .if4 .taken, c .before .if5 .taken, c .atan2 .ensures)
+returns-5 c = rw (numbers (c .before .before .before .before .before), c .before .before .before .before .if3 .left, c .before .before .before .if4 .left, c .before .before .if5 .taken, c .before .if6 .taken, c .atan2 .ensures)
 
 atan-requires-3 : tie.Need-atan-requires-3
 atan-requires-3 c κs = search needs
 
-returns-5 : tie.Need-returns-5
-unfolding atan2
-returns-5 c = rw (numbers (c .before .before .before .before), c .before .before .before .if3 .left, c .before .before .if4 .taken, c .before .if5 .left, c .atan3 .ensures)
-
 returns-6 : tie.Need-returns-6
 unfolding atan2
-returns-6 c = rw (numbers (c .before .before .before), c .before .before .if3 .left, c .before .if4 .left, c .if6 .taken)
+returns-6 c = rw (numbers (c .before .before .before .before .before), c .before .before .before .before .if3 .left, c .before .before .before .if4 .left, c .before .before .if5 .taken, c .before .if6 .left, c .atan3 .ensures)
 
 returns-7 : tie.Need-returns-7
 unfolding atan2
-returns-7 c = rw (numbers (c .before .before .before .before), c .before .before .before .if3 .left, c .before .before .if4 .left, c .before .if6 .left, c .if7 .taken)
+returns-7 c = rw (numbers (c .before .before .before .before), c .before .before .before .if3 .left, c .before .before .if4 .left, c .before .if5 .left, c .if7 .taken)
 
 returns-8 : tie.Need-returns-8
 unfolding atan2
-returns-8 c = rw (numbers (c .before .before .before .before), c .before .before .before .if3 .left, c .before .before .if4 .left, c .before .if6 .left, c .if7 .left)
+returns-8 c = rw (numbers (c .before .before .before .before), c .before .before .before .if3 .left, c .before .before .if4 .left, c .before .if5 .left, c .if7 .left)
 
 pub atan2-spec : {M : Type 1} → statement M
 atan2-spec =
@@ -68,10 +72,11 @@ atan2-spec =
     returns-2
     atan-requires
     returns-3
-    atan-requires-2
+    zero-angle-requires
     returns-4
-    atan-requires-3
+    atan-requires-2
     returns-5
+    atan-requires-3
     returns-6
     returns-7
     returns-8)
