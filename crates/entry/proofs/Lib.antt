@@ -1,3 +1,4 @@
 pub mod ListTests
 pub mod Stages
 pub mod StartPoses
+pub mod Backwards
