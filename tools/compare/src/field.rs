@@ -167,6 +167,15 @@ pub fn looking(r: &mut Rng, boresight: [f64; 3]) -> Rows {
     [x, cross(z, x), z]
 }
 
+/// An attitude along the axes, half of them looking exactly backwards.
+pub fn squarely(r: &mut Rng) -> Rows {
+    let ends = [1.0, -1.0];
+    let along = |axis: usize, end: f64| [0, 1, 2].map(|i| if i == axis { end } else { 0.0 });
+    let (axis, end) = if r.once_in(2) { (0, -1.0) } else { (r.whole(0, 2), r.pick(&ends)) };
+    let (z, x) = (along(axis, end), along((axis + r.whole(1, 2)) % 3, r.pick(&ends)));
+    [x, cross(z, x), z]
+}
+
 /// The attitude turned about its own axes by small angles.
 pub fn turned(rows: &Rows, about_x: f64, about_y: f64, about_z: f64) -> Rows {
     let by = rotation([1.0, about_x / 2.0, about_y / 2.0, about_z / 2.0]);

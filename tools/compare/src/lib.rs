@@ -28,6 +28,7 @@ kinds! {
     "clipped" 8 |r| runs::clipped(r).bytes();
     "drifting" 8 |r| runs::drifting(r).bytes();
     "polar" 6 |r| runs::polar(r).bytes();
+    "backwards" 6 |r| runs::backwards(r).bytes();
     "tied" 6 |r| runs::tied(r).bytes();
     "gridded" 6 |r| runs::gridded(r).bytes();
     "brimful" 2 |r| late::brimful(r).bytes();

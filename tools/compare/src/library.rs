@@ -11,7 +11,7 @@ use reference::answer::bits;
 use reference::call::{self, Answer, Lent};
 use reference::record::{read_any, Exposure};
 
-const USAGE: &str = "library [--count N] [--full N] [--seed N] [--time] [--growth]";
+const USAGE: &str = "library [--count N] [--kind NAME] [--full N] [--seed N] [--time] [--growth]";
 
 /// Lists filled with what must not matter, of lengths that vary about the needed ones.
 fn lent(r: &mut Rng, e: &Exposure, pairs: usize) -> Lists {
@@ -115,12 +115,12 @@ fn due(e: &Exposure, l: &Lists) -> Result<Answer, u8> {
     call::refine(e, &lent, false)
 }
 
-/// Calls of seeded records: of all kinds, or of full size.
+/// Calls of seeded records: of all kinds, or of one.
 fn compare(seed: u64, count: u64, kind: Option<&str>, pairs: usize) {
     let (mut calls, mut different, mut item) = (0, 0, 0);
     let mut answers: BTreeMap<String, u64> = BTreeMap::new();
     while calls < count {
-        let (name, bytes) = record(seed, item, kind).unwrap();
+        let (name, bytes) = record(seed, item, kind).expect(USAGE);
         item += 1;
         let Ok(mut e) = read_any(&bytes) else { continue };
         calls += 1;
@@ -150,23 +150,23 @@ fn compare(seed: u64, count: u64, kind: Option<&str>, pairs: usize) {
 
 fn main() {
     let (mut seed, mut count, mut full) = (1, 0, 0);
-    let (mut timed, mut growth) = (false, false);
+    let (mut timed, mut growth, mut kind) = (false, false, None);
     let mut words = std::env::args().skip(1);
     while let Some(word) = words.next() {
-        if word == "--time" || word == "--growth" {
-            *(if word == "--time" { &mut timed } else { &mut growth }) = true;
-            continue;
-        }
-        let value: u64 = words.next().and_then(|v| v.parse().ok()).expect(USAGE);
+        let mut value = || words.next().expect(USAGE);
+        let number = |value: String| value.parse().expect(USAGE);
         match word.as_str() {
-            "--seed" => seed = value,
-            "--count" => count = value,
-            "--full" => full = value,
+            "--time" => timed = true,
+            "--growth" => growth = true,
+            "--kind" => kind = Some(value()),
+            "--seed" => seed = number(value()),
+            "--count" => count = number(value()),
+            "--full" => full = number(value()),
             _ => panic!("{USAGE}"),
         }
     }
     if count > 0 {
-        compare(seed, count, None, 2048);
+        compare(seed, count, kind.as_deref(), 2048);
     }
     if full > 0 {
         compare(seed, full, Some("full-size"), 1 << 20);

@@ -1,7 +1,7 @@
 //! Kinds of exposures that reach the run and take it along different ways.
 
 use crate::exposure::Exposure;
-use crate::field::{attitude, looking, Plan, SPOTS};
+use crate::field::{attitude, looking, narrowed, squarely, turned, Plan, SPOTS};
 use crate::rng::Rng;
 
 /// An ordinary field.
@@ -91,6 +91,19 @@ pub fn polar(r: &mut Rng) -> Exposure {
     p.wrong = r.whole(0, 4);
     p.rounds = r.whole(1, 30) as u32;
     p.take(r)
+}
+
+/// A start that faces exactly backwards, or along another axis, with exact
+/// quarter or half turns and zeros of both signs in the rotation's rows.
+pub fn backwards(r: &mut Rng) -> Exposure {
+    let mut p = Plan::ordinary(r);
+    let start = squarely(r);
+    let off = if r.once_in(3) { 0.0 } else { 1.0 };
+    let [about_x, about_y] = [0, 1].map(|_| off * p.tilt * r.normal());
+    p.attitude = turned(&start, about_x, about_y, off * p.roll);
+    let mut e = p.take(r);
+    e.rotation = narrowed(&start).map(|c| if c == 0.0 { r.pick(&[0.0, -0.0]) } else { c });
+    e
 }
 
 /// Spots and directions that occur twice, and spots on a grid: distances tie.
