@@ -1,4 +1,4 @@
--- 01, "atan: ..", "asin(v): ..", "atan2(y, x): ..". Definitions only. Assumes nothing.
+-- 01, "atan: ..", "asin(v): ..", "atan2(y, x): ..", the last with 02, CR 6, for its zeros. Definitions only. Assumes nothing.
 use Prim.Native.Nat.{ℕ}
 use mathlib.Core.Bool.{cond, _||_}
 use mathlib.Core.List.{List, [], _∷_}
@@ -53,7 +53,7 @@ asin v = cond (lt one64 (absF v)) nan (atan (v ⊘ root binary64 ((one64 ⊖ v) 
 abbrev pub zeroAngle : Float → Float → Float
 zeroAngle y x = cond (negative x) (cond (negative y) (neg pi) pi) y
 
--- x above 0, atan(y/x); then a zero y, as above; x below 0, atan(y/x) plus 3.141592653589793, or minus it where y is below 0; x zero,
+-- x above 0, atan(y/x). Else a zero y, as above. Else x below 0, atan(y/x) plus 3.141592653589793, or minus it where y is below 0; x zero,
 -- ±1.5707963267948966 by y. NaN where either is NaN.
 unfoldable pub atan2 : Float → Float → Float
 unfolding atan

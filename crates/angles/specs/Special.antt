@@ -1,4 +1,4 @@
--- The special values of atan2 as IEEE 754-2019 lists them (9.2.1), in its order. With 02, CR 6, in force every line of it holds but those for two
+-- The special values of atan2 that IEEE 754-2019 lists (9.2.1). With 02, CR 6, in force every line of the list holds but those for two
 -- infinities, which the last line here has in their place. π and π/2 are 01's 3.141592653589793 and 1.5707963267948966. Definitions only;
 -- `proofs/Theorems.antt` proves the statement as `atan2-special-values`. Assumes nothing.
 use mathlib.Core.Path.{_≡_}

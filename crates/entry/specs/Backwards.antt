@@ -9,8 +9,8 @@ use Rattle.angles.specs.Special.{signed}
 use Rattle.solve.specs.Vector.{entry}
 use Rattle.entry.specs.Fixed.{startPoseOf}
 
--- The boresight, the rotation's third row, points against the first axis and its second component is a zero: the run starts half a turn away, with
--- the sign of that zero.
+-- Of the boresight, the rotation's third row, the first component is below zero and the second is a zero: the right ascension that the run starts
+-- from is half a turn, with the sign of that zero.
 abbrev pub FacesBackwards : Type 0
 FacesBackwards = (rotation : List (List Float)) (scale : Float) (s : Bool) →
     lt (entry rotation 2 0) zero64 ≡ true → entry rotation 2 1 ≡ signed s zero64 →
