@@ -102,10 +102,10 @@ static void put(uint64_t n)
 /* One spot and one direction; every float of the record is the pattern. */
 static void read_record(uint64_t w, uint32_t n)
 {
-    double spots[2], measures[2];
+    double spots[2], measures[3];
     size_t matches[1], choices[6];
     float directions[3], rotation[9];
-    const uint64_t start[] = {1, 0, 1, 0, w, n, 1, 1};
+    const uint64_t start[] = {1, 0, 1, 0, w, n, w, 1, 1};
     length = 0;
     for (size_t i = 0; i < LENGTH(start); i++) {
         put(start[i]);
@@ -122,6 +122,7 @@ static void read_record(uint64_t w, uint32_t n)
                                                                 LENT(measures), LENT(rotation)), 0);
     hold_double("scale", w, measures[0]);
     hold_double("radius", n, measures[1]);
+    hold_double("cut", w, measures[2]);
     for (size_t i = 0; i < LENGTH(spots); i++) {
         hold_double("spot", w, spots[i]);
     }

@@ -23,7 +23,7 @@ extern "C" {
         matches: *const usize, matches_len: usize,
         directions: *const f32, directions_len: usize,
         rotation: *const f32, rotation_len: usize,
-        scale: f64, mirror: bool, radius: f32, limit: usize, rounds: usize,
+        scale: f64, mirror: bool, radius: f32, cut: f64, limit: usize, rounds: usize,
         numbers: *mut usize, numbers_len: usize,
         floats: *mut f64, floats_len: usize,
         distances: *mut f64, distances_len: usize,
@@ -61,6 +61,8 @@ pub struct Setting {
     pub mirror: bool,
     /// of matching, in radians
     pub radius: f32,
+    /// a direction is dropped where its denominator in the projection is at most this
+    pub cut: f64,
     /// only the first so many spots are matched
     pub limit: usize,
     pub rounds: usize,
@@ -78,7 +80,7 @@ pub struct Header {
 /// Reads a record into the front of three lists: two places for a spot or a match, three for a direction. Refused, the lists are as they came.
 pub fn read_record(bytes: &[u8], spots: &mut [f64], matches: &mut [usize], directions: &mut [f32]) -> Result<Header, Refusal> {
     let mut choices = [0; 6];
-    let mut measures = [0.0; 2];
+    let mut measures = [0.0; 3];
     let mut rotation = [0.0; 9];
     // SAFETY: each pointer and length come from one slice or array that lives through the call. Those written to are borrowed for it alone, so no
     // two lists overlap. The library writes within the lengths, keeps no pointer, and every bit pattern it writes is a value of the type.
@@ -96,13 +98,13 @@ pub fn read_record(bytes: &[u8], spots: &mut [f64], matches: &mut [usize], direc
     };
     accepted(number)?;
     let [spots, matches, directions, mirror, limit, rounds] = choices;
-    let [scale, radius] = measures;
-    let setting = Setting { rotation, scale, mirror: mirror == 1, radius: radius as f32, limit, rounds };
+    let [scale, radius, cut] = measures;
+    let setting = Setting { rotation, scale, mirror: mirror == 1, radius: radius as f32, cut, limit, rounds };
     Ok(Header { spots, matches, directions, setting })
 }
 
 /// The lists that a refinement works in. After an accepted call `result` starts with the matches, spot then direction of each, and the others are
-/// zero. Refused with 5 to 11 all are as they came; with 12 or 13 `result` is as it came and the others are zero.
+/// zero. Refused with 5 to 11 or 14 all are as they came; with 12 or 13 `result` is as it came and the others are zero.
 pub struct Lists<'a> {
     pub numbers: &'a mut [usize],
     pub floats: &'a mut [f64],
@@ -143,7 +145,7 @@ impl Lists<'_> {
                 matches.as_ptr(), matches.len(),
                 directions.as_ptr(), directions.len(),
                 setting.rotation.as_ptr(), setting.rotation.len(),
-                setting.scale, setting.mirror, setting.radius, setting.limit, setting.rounds,
+                setting.scale, setting.mirror, setting.radius, setting.cut, setting.limit, setting.rounds,
                 self.numbers.as_mut_ptr(), self.numbers.len(),
                 self.floats.as_mut_ptr(), self.floats.len(),
                 self.distances.as_mut_ptr(), self.distances.len(),

@@ -21,7 +21,7 @@ static double spots[2 * SPOTS];
 static size_t matches[2 * MATCHES];
 static float directions[3 * DIRECTIONS];
 static size_t choices[6];
-static double measures[2];
+static double measures[3];
 static float rotation[9];
 
 static size_t numbers[WORKING];
@@ -53,8 +53,8 @@ int main(void)
                                          LENT(rotation));
     if (refusal == 0) {
         refusal = raqembu_wcs_refine(spots, 2 * choices[0], matches, 2 * choices[1], directions, 3 * choices[2], LENT(rotation), measures[0],
-                                     choices[3] == 1, (float)measures[1], choices[4], choices[5], LENT(numbers), LENT(floats), LENT(distances),
-                                     LENT(indices), LENT(result), LENT(counts), LENT(values));
+                                     choices[3] == 1, (float)measures[1], measures[2], choices[4], choices[5], LENT(numbers), LENT(floats),
+                                     LENT(distances), LENT(indices), LENT(result), LENT(counts), LENT(values));
     }
     if (refusal != 0) {
         printf("no %zu\n", refusal);

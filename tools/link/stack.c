@@ -34,8 +34,8 @@ static void empty(void) {}
 static void refine(void)
 {
     answer = raqembu_wcs_refine(spots, 2 * spot_count, matches, 2 * spot_count, directions, 3 * direction_count, LENT(rotation), 0x1p-12, false,
-                                0x1p-10f, SIZE_MAX, 8, LENT(numbers), LENT(floats), LENT(distances), LENT(indices), LENT(result), LENT(counts),
-                                LENT(values));
+                                0x1p-10f, 1e-12, SIZE_MAX, 8, LENT(numbers), LENT(floats), LENT(distances), LENT(indices), LENT(result),
+                                LENT(counts), LENT(values));
 }
 
 /* The places touched are counted before the thread ends, so that its ending takes no part. */

@@ -63,6 +63,21 @@ SUBSTITUTIONS = [
     (CATALOG, "fn query_impl(", "pub fn query_cells(", 1),
     (CATALOG, "fn normalize_or_fallback(", "pub fn normalize_or_fallback(", 1),
 
+    # The plane cut is a number given with the call: an argument of the run and
+    # of all that projects within it, first of those that go over the matches.
+    # `tan_project`, which no run calls, and `CONVERGENCE_RAD` keep their 1e-12.
+    (REFINE, "match_radius_rad: f32,\n", "match_radius_rad: f32,\n    cut: f64,\n", 1),
+    (REFINE, "    matches: &[(usize, usize)],\n    star_vectors: StarVectors<'_>,\n",
+     "    cut: f64,\n    matches: &[(usize, usize)],\n    star_vectors: StarVectors<'_>,\n", 3),
+    (REFINE, "&current_matches,\n", "cut, &current_matches,\n", 6),
+    (REFINE, "fn tan_project_vec(sv: &[f32; 3], basis: &TanBasis)",
+     "fn tan_project_vec(sv: &[f32; 3], basis: &TanBasis, cut: f64)", 1),
+    (REFINE, "tan_project_vec(&star_vectors.get(cat_idx), &basis)",
+     "tan_project_vec(&star_vectors.get(cat_idx), &basis, cut)", 3),
+    (REFINE, "let denom = dot(&basis[2]);\n    if denom <= 1e-12 {",
+     "let denom = dot(&basis[2]);\n    if denom <= cut {", 1),
+    (REFINE, "if z <= 1e-12 {", "if z <= cut {", 1),
+
     # Refusal 12: after each update of theta, RA and Dec, in the fit passes and
     # in the refits of the final clips.
     (REFINE, "crval_dec = new_dec;",

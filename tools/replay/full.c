@@ -20,7 +20,7 @@ static float directions[3 * MOST_DIRECTIONS];
 static size_t spot_count, match_count, direction_count, limit, rounds, pairs;
 static float radius;
 static bool mirror;
-static const double scale = 1.0 / 4096;
+static const double scale = 1.0 / 4096, cut = 1e-12;
 static const float rotation[9] = {0, 1, 0, 0, 0, 1, 1, 0, 0};
 static size_t numbers[16 * (MOST_SPOTS + MOST_MATCHES + MOST_DIRECTIONS)];
 static double floats[16 * (MOST_SPOTS + MOST_MATCHES + MOST_DIRECTIONS)];
@@ -98,7 +98,7 @@ static void put_float(float x) {
 
 static void write_record(void) {
     put(spot_count), put(match_count), put(direction_count), put(mirror), put(bits(scale));
-    put_float(radius), put(limit), put(rounds);
+    put_float(radius), put(bits(cut)), put(limit), put(rounds);
     for (int i = 0; i < 9; i++) put_float(rotation[i]);
     for (size_t i = 0; i < 2 * spot_count; i++) put(bits(spots[i]));
     for (size_t i = 0; i < 2 * match_count; i++) put(matches[i]);
@@ -133,7 +133,7 @@ static void run(unsigned n) {
     double values[18];
     size_t refusal = raqembu_wcs_refine(
         spots, 2 * spot_count, matches, 2 * match_count, directions, 3 * direction_count, rotation, 9,
-        scale, mirror, radius, limit, rounds, numbers, places, floats, places,
+        scale, mirror, radius, cut, limit, rounds, numbers, places, floats, places,
         distances, 2 * pairs, indices, 4 * pairs, result, 2 * MOST_SPOTS, counts, 4, values, 18);
     if (!zero(numbers, 8 * places) || !zero(floats, 8 * places) || !zero(distances, 16 * pairs) || !zero(indices, 32 * pairs))
         printf("call %u: a list is not zero\n", n);

@@ -1,6 +1,6 @@
 # Writes the rows of whole calls (crates/calls/specs) from the model: for each call its arguments, every value on the way, and the small equations
 # that the check computes, joined by the steps of crates/calls/specs/Steps.antt.
-# usage: python3 rows.py [NAME..]      without names, every call
+# usage: python3 rows.py [--to FOLDER] [NAME..]      without names, every call; without a folder, into crates/calls/specs
 import os, sys
 from calls import *
 
@@ -98,7 +98,7 @@ class Writer:
         w.places = 16 * (len(c.spots) + len(c.matches) + len(c.dirs))
         lent = w.lists(7, 'one64', 5, result)
         given = record((('matches', flat(c.matches)), ('rotation', matrix(c.rotation)), ('scale', number(c.scale)), ('mirror', truth(c.mirror)),
-            ('radius', number(c.radius)), ('limit', c.limit), ('rounds', c.rounds), ('lent', lent)))
+            ('radius', number(c.radius)), ('cut', number(c.cut)), ('limit', c.limit), ('rounds', c.rounds), ('lent', lent)))
         call = record((('spots', 'spots'), ('directions', 'directions'), ('given', given)))
         w.out.append('-- The call, with its lent lists as they come.\nabbrev pub %s-call : Call\n%s\n' % (w.name, after(w.name + '-call', call)))
         for at, (n, vs) in enumerate((('spots', c.spots), ('directions', c.dirs)), 1):
@@ -106,7 +106,7 @@ class Writer:
             w.out.insert(at, '-- The call\'s %s.\nabbrev %s : List Float\n%s =\n    %s\n' % (n, n, n, '\n    ∷ '.join(lines)))
         w.heading('what its run starts from')
         w.value('Fixed', 'k', record((('scale', number(c.scale)), ('mirror', truth(c.mirror)), ('radius', number(c.radius)),
-            ('limit', c.limit), ('count', len(c.dirs)), ('capacity', c.capacity), ('cut', number(CUT)), ('far', number(c.far)))))
+            ('limit', c.limit), ('count', len(c.dirs)), ('capacity', c.capacity), ('cut', number(c.cut)), ('far', number(c.far)))))
         p = w.value('Pose', 'pose-0', pose(c.start()))
         w.state = w.value('State', 'state-0', 'record { pose = %s; matches = %s; cache = empty }' % (p, flat(c.matches)))
         w.computed('begun', 'Begun %s-call k %s' % (w.name, w.state), 'checks', ('accepted', 'same', 'begins'), floats=False)
@@ -262,6 +262,9 @@ CALLS = (
         'Two rounds: the matches of the first turn the camera past the margin, and the second queries anew.', list(range(31, 43))),
     ('one-clip', 'OneClip', one_clip, 'A clip: one of six starting matches lies too far off, and five are left.', list(range(31, 45))),
     ('last-clip', 'LastClip', last_clip, 'Two rounds with one query, used up, and a clip with its fit at the closing.', list(range(31, 47))),
+    ('grazing', 'Grazing', grazing,
+        'A direction whose denominator is the cut: a query lists it, and it is neither predicted nor cached, though in the second round it would fit.',
+        list(range(31, 43))),
 )
 
 TOP = '''-- Whole calls, computed by the check from the written meaning: each comes to the answer that the reference gives, after these queries.
@@ -293,12 +296,12 @@ All [] = Unit
 All (r ∷ rs) = Holds r × All rs
 '''
 
-def main(names):
+def main(place, names):
     done = []
     for name, module, make, about, lent in CALLS:
         if names and name not in names: continue
         w = Writer(name, make(), about, lent); w.call()
-        with open(os.path.join(PLACE, module + '.antt'), 'w') as f: f.write('\n'.join(w.out))
+        with open(os.path.join(place, module + '.antt'), 'w') as f: f.write('\n'.join(w.out))
         row = record((('call', name + '-call'), ('answered', w.outcome), ('listed', w.listed)))
         done.append((name, module, about, row))
     top = TOP + ''.join('use Rattle.calls.specs.%s.{%s-call, %s-row, %s-listed}\n' % (m, n, n, n) for n, m, a, r in done) + ROW
@@ -306,8 +309,11 @@ def main(names):
     top += '\n-- The rows, in this order.\nabbrev pub rows : List Row\nrows = %s\n' % several(n for n, m, a, r in done)
     for n, m, a, r in done: top += '\n%s-holds : Holds %s\n%s-holds = record { answers = %s-row; lists = %s-listed }\n' % (n, n, n, n, n)
     top += '\n-- Every row holds.\npub calls : All rows\ncalls = %stt%s\n' % (''.join('(%s-holds, ' % n for n, m, a, r in done), ')' * len(done))
-    with open(os.path.join(PLACE, 'Calls.antt'), 'w') as f: f.write(top)
-    with open(os.path.join(PLACE, 'Lib.antt'), 'w') as f:
+    with open(os.path.join(place, 'Calls.antt'), 'w') as f: f.write(top)
+    with open(os.path.join(place, 'Lib.antt'), 'w') as f:
         f.write(''.join('pub mod %s\n' % m for m in ['Computed', 'Instance', 'Queried', 'Steps'] + [m for n, m, a, r in done] + ['Calls']))
 
-if __name__ == '__main__': main(sys.argv[1:])
+if __name__ == '__main__':
+    words = sys.argv[1:]
+    if words[:1] == ['--to']: main(words[1], words[2:])
+    else: main(PLACE, words)

@@ -6,6 +6,10 @@ from angles import BOTH, INF, NAN, ONE, SIGN, ZERO, bits32, bits64, once
 
 SEED = 20261117
 
+# The plane cut: its least value, 1e-12, its greatest, and some between.
+LEAST_CUT = 0x3D719799812DEA11
+CUTS = (LEAST_CUT, LEAST_CUT + 1, bits64(1e-6), bits64(0.01), bits64(0.1), bits64(0.25), bits64(0.4), bits64(0.5) - 1, bits64(0.5))
+
 
 def hex64(values):
     return " ".join(f"{v:016X}" for v in values)
@@ -78,12 +82,25 @@ def vectors(rng):
         v = [rng.gauss(0, 1) for _ in range(3)]
         n = math.sqrt(sum(x * x for x in v))
         basis = [bits64(rng.gauss(0, 1)) for _ in range(6)] + [bits64(x / n + rng.gauss(0, 0.2)) for x in v]
-        yield "tan_project_vec " + hex32(bits32(x / n) for x in v) + " " + hex64(basis)
+        yield "tan_project_vec " + hex32(bits32(x / n) for x in v) + " " + hex64(basis + [LEAST_CUT])
     for _ in range(30):  # on both sides of the plane cut, and odd values
-        basis = [odd64(rng) for _ in range(6)] + [ZERO, ZERO, rng.choice((0x3D719799812DEA11, 0x3D719799812DEA12, 0x3D719799812DEA10, ZERO, SIGN | ONE, NAN))]
-        yield "tan_project_vec " + hex32((bits32(0.5), bits32(-0.25), bits32(1.0))) + " " + hex64(basis)
+        basis = [odd64(rng) for _ in range(6)] + [ZERO, ZERO, rng.choice((LEAST_CUT, LEAST_CUT + 1, LEAST_CUT - 1, ZERO, SIGN | ONE, NAN))]
+        yield "tan_project_vec " + hex32((bits32(0.5), bits32(-0.25), bits32(1.0))) + " " + hex64(basis + [LEAST_CUT])
     for _ in range(60):
         yield "predict_tanplane " + hex64(angle(rng) for _ in range(5))
+    yield from cut_vectors(random.Random(SEED + 1))
+
+
+def cut_vectors(rng):
+    """Denominators at other cuts, a bit below and a bit above them; of a NaN, which no cut drops; and of any direction."""
+    for cut in CUTS:
+        for denominator in (cut - 1, cut, cut + 1, NAN):
+            basis = [bits64(rng.gauss(0, 1)) for _ in range(6)] + [ZERO, ZERO, denominator]
+            yield "tan_project_vec " + hex32((bits32(0.5), bits32(-0.25), bits32(1.0))) + " " + hex64(basis + [cut])
+    for _ in range(60):
+        v = [rng.gauss(0, 1) for _ in range(3)]
+        basis = [bits64(rng.gauss(0, 1)) for _ in range(9)]
+        yield "tan_project_vec " + hex32(bits32(x) for x in v) + " " + hex64(basis + [rng.choice(CUTS)])
 
 
 def systems(rng):
@@ -118,9 +135,10 @@ def accumulations(rng):
         yield "accumulate_normal_equations " + hex64(angle(rng) for _ in range(19))
 
 
-def exposure(rng, most=9, odd=False):
-    """A pose with spots, matches and directions that fit it more or less; some directions lie behind the plane, some matches repeat."""
-    theta, ra, dec, ps = rng.uniform(-3, 3), rng.uniform(-3, 3), rng.uniform(-1.4, 1.4), 10 ** rng.uniform(-4, -3)
+def exposure(rng, most=9, odd=False, cut=LEAST_CUT, wide=1):
+    """A pose and a cut with spots, matches and directions that fit the pose more or less; some directions lie behind the plane, some matches
+    repeat. A wider field has directions that the greater cuts drop."""
+    theta, ra, dec, ps = rng.uniform(-3, 3), rng.uniform(-3, 3), rng.uniform(-1.4, 1.4), wide * 10 ** rng.uniform(-4, -3)
     n = rng.randrange(0, most)
     sa, ca, sd, cd = math.sin(ra), math.cos(ra), math.sin(dec), math.cos(dec)
     east, north, bore = (-sa, ca, 0), (-sd * ca, -sd * sa, cd), (cd * ca, cd * sa, sd)
@@ -137,7 +155,7 @@ def exposure(rng, most=9, odd=False):
     if n and rng.random() < 0.2:
         matches.append((rng.randrange(n), rng.randrange(n)))
     spots = [odd64(rng) if odd and rng.random() < 0.1 else bits64(x) for x in spots]
-    pose = hex64(bits64(x + rng.gauss(0, 1e-3)) for x in (theta, ra, dec)) + f" {bits64(ps):016X}"
+    pose = hex64(bits64(x + rng.gauss(0, 1e-3)) for x in (theta, ra, dec)) + f" {bits64(ps):016X} {cut:016X}"
     flat = " ".join(f"{s:X} {d:X}" for s, d in matches)
     return (f"{pose} {n:X} {hex64(spots)} {len(matches):X} {flat} {n:X} {hex32(bits32(x) for x in directions)}").split()
 
@@ -152,6 +170,14 @@ def fits(rng):
 def residuals(rng):
     for i in range(60):
         yield "compute_residuals " + " ".join(exposure(rng, 12, odd=i % 5 == 4))
+
+
+def grazing(rng):
+    """Wide fields at every cut."""
+    for name in ("ls_fit_once", "normal_matrix", "compute_residuals"):
+        for cut in CUTS:
+            for _ in range(4):
+                yield f"{name} " + " ".join(exposure(rng, 12, cut=cut, wide=30))
 
 
 def measured(rng, n):
@@ -187,6 +213,7 @@ FILES = {
     "fits.txt": fits,
     "residuals.txt": residuals,
     "clips.txt": clips,
+    "grazing.txt": grazing,
 }
 
 

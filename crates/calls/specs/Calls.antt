@@ -12,6 +12,7 @@ use Rattle.calls.specs.ManyPairs.{many-pairs-call, many-pairs-row, many-
 use Rattle.calls.specs.SecondQuery.{second-query-call, second-query-row, second-query-listed}
 use Rattle.calls.specs.OneClip.{one-clip-call, one-clip-row, one-clip-listed}
 use Rattle.calls.specs.LastClip.{last-clip-call, last-clip-row, last-clip-listed}
+use Rattle.calls.specs.Grazing.{grazing-call, grazing-row, grazing-listed}
 
 -- A call, its answer with the lists that it leaves, and what each of its queries lists.
 pub record Row : Type 0 where
@@ -168,9 +169,44 @@ last-clip = record {
   listed = (0 ∷ 1 ∷ 2 ∷ 3 ∷ 4 ∷ 5 ∷ 6 ∷ []) ∷ [];
 }
 
+-- A direction whose denominator is the cut: a query lists it, and it is neither predicted nor cached, though in the second round it would fit.
+abbrev pub grazing : Row
+grazing = record {
+  call = grazing-call;
+  answered = record {
+    answer = ok (record {
+      pose = record {
+        theta = f64 0x3F27511A1A787E01;
+        ra = f64 0x3F01301868C20CFE;
+        dec = f64 0xBEB520ED870F34EF;
+        scale = f64 0x3F50000000000000;
+      };
+      cd =
+          (f64 0x3F4FFFFFF7814E77 ∷ f64 0xBE87511A18684B99 ∷ [])
+          ∷ (f64 0x3E87511A18684B99 ∷ f64 0x3F4FFFFFF7814E77 ∷ [])
+          ∷ [];
+      rms = f64 0x3ED3B8D23AFBB369;
+      covariance =
+          (f64 0x3E67513A518EBD6C ∷ f64 0x3DCDE04F379521A6 ∷ f64 0xBDA4BEE6B9DF9E55 ∷ [])
+          ∷ (f64 0x3DCDE04F379521A6 ∷ f64 0x3D93BF312E291492 ∷ f64 0xBD0A94CD7137A5E1 ∷ [])
+          ∷ (f64 0xBDA4BEE6B9DF9E55 ∷ f64 0xBD0A94CD7137A5E1 ∷ f64 0x3D9374F06DE181BD ∷ [])
+          ∷ [];
+      matches = 1 ∷ 1 ∷ 2 ∷ 2 ∷ 0 ∷ 0 ∷ 3 ∷ 3 ∷ [];
+    }) 2 3 1;
+    lent = record {
+      numbers = replicate 176 0;
+      floats = replicate 176 zero64;
+      distances = replicate 64 zero64;
+      indices = replicate 128 0;
+      result = 1 ∷ 1 ∷ 2 ∷ 2 ∷ 0 ∷ 0 ∷ 3 ∷ 3 ∷ 39 ∷ 40 ∷ 41 ∷ 42 ∷ [];
+    };
+  };
+  listed = (0 ∷ 1 ∷ 2 ∷ 3 ∷ 4 ∷ []) ∷ [];
+}
+
 -- The rows, in this order.
 abbrev pub rows : List Row
-rows = far-turn ∷ many-pairs ∷ second-query ∷ one-clip ∷ last-clip ∷ []
+rows = far-turn ∷ many-pairs ∷ second-query ∷ one-clip ∷ last-clip ∷ grazing ∷ []
 
 far-turn-holds : Holds far-turn
 far-turn-holds = record { answers = far-turn-row; lists = far-turn-listed }
@@ -187,6 +223,9 @@ one-clip-holds = record { answers = one-clip-row; lists = one-clip-listed }
 last-clip-holds : Holds last-clip
 last-clip-holds = record { answers = last-clip-row; lists = last-clip-listed }
 
+grazing-holds : Holds grazing
+grazing-holds = record { answers = grazing-row; lists = grazing-listed }
+
 -- Every row holds.
 pub calls : All rows
-calls = (far-turn-holds, (many-pairs-holds, (second-query-holds, (one-clip-holds, (last-clip-holds, tt)))))
+calls = (far-turn-holds, (many-pairs-holds, (second-query-holds, (one-clip-holds, (last-clip-holds, (grazing-holds, tt))))))

@@ -64,6 +64,7 @@ far-turn-call = record {
     scale = f64 0x3F50000000000000;
     mirror = false;
     radius = f64 0x3F847AE140000000;
+    cut = f64 0x3D719799812DEA11;
     limit = 3;
     rounds = 2;
     lent = record {

@@ -15,7 +15,7 @@ use Rattle.fit.specs.Rows.{spotAt, directionAt}
 use Rattle.solve.specs.Vector.{at}
 use Rattle.fit.specs.declared.Spot.{Spot}
 use Rattle.entry.specs.Arguments.{Call, Given, Lent, directionCount, spotCount}
-use Rattle.entry.specs.Check.{between, every}
+use Rattle.entry.specs.Check.{leastCut, between, every}
 use Rattle.entry.specs.Fixed.{distance}
 use Rattle.wcs_refine.specs.Associate.{links}
 use Rattle.wcs_refine.specs.Call.{Outcome, Answer, ok, outcome, queries}
@@ -33,6 +33,7 @@ given n = record {
   scale = f64 0x3F50000000000000;
   mirror = false;
   radius = f64 0x3F80000000000000;
+  cut = leastCut;
   limit = 1;
   rounds = 1;
   lent = record {

@@ -72,6 +72,7 @@ last-clip-call = record {
     scale = f64 0x3F50000000000000;
     mirror = false;
     radius = f64 0x3F689374C0000000;
+    cut = f64 0x3D719799812DEA11;
     limit = 7;
     rounds = 2;
     lent = record {

@@ -7,4 +7,5 @@ pub mod ManyPairs
 pub mod SecondQuery
 pub mod OneClip
 pub mod LastClip
+pub mod Grazing
 pub mod Calls

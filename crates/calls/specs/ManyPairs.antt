@@ -67,6 +67,7 @@ many-pairs-call = record {
     scale = f64 0x3F50000000000000;
     mirror = false;
     radius = f64 0x3F9EB851E0000000;
+    cut = f64 0x3D719799812DEA11;
     limit = 5;
     rounds = 2;
     lent = record {

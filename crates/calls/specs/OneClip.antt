@@ -70,6 +70,7 @@ one-clip-call = record {
     scale = f64 0x3F50000000000000;
     mirror = true;
     radius = f64 0x3F689374C0000000;
+    cut = f64 0x3D719799812DEA11;
     limit = 6;
     rounds = 2;
     lent = record {

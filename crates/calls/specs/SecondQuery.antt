@@ -67,6 +67,7 @@ second-query-call = record {
     scale = f64 0x3F50000000000000;
     mirror = false;
     radius = f64 0x3F50624DE0000000;
+    cut = f64 0x3D719799812DEA11;
     limit = 5;
     rounds = 3;
     lent = record {

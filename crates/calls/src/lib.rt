@@ -8,5 +8,5 @@ ghost use Rattle.calls.specs.Calls.{rows};
 pub fn rows() -> u8
     ensures { λ r. ⌜ r ≡ length rows ⌝ }
 {
-    5
+    6
 }

@@ -25,6 +25,10 @@ unfolding orElse
 goes zero b e z f = f
 goes (suc a) b e z f = absurd (omega arith)
 
+-- three in turn
+pub in-turn : (a b c : ℕ) {x y z o r : ℕ} → x ≡ a → y ≡ b → z ≡ c → o ≡ orElse y z → r ≡ orElse x o → r ≡ orElse a (orElse b c)
+in-turn a b c e f g h k = k ∙ (λ i. orElse (e i) ((h ∙ (λ j. orElse (f j) (g j))) i))
+
 -- neither of two does
 pub both-pass : (a b : ℕ) → orElse a b ≡ 0 → (a ≡ 0) × (b ≡ 0)
 unfolding orElse

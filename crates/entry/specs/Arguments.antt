@@ -14,14 +14,15 @@ pub record Lent : Type 0 where
   pub indices : List ℕ
   pub result : List ℕ
 
--- The arguments of `wcs_refine` beside spots and directions: starting matches, rotation, pixel scale, `parity_flip`, match radius, matching limit,
--- most rounds, and the lent lists.
+-- The arguments of `wcs_refine` beside spots and directions: starting matches, rotation, pixel scale, `parity_flip`, match radius, plane cut (02, CR 2:
+-- "a number given with the call"), matching limit, most rounds, and the lent lists.
 pub record Given : Type 0 where
   pub matches : List ℕ
   pub rotation : List (List Float)
   pub scale : Float
   pub mirror : Bool
   pub radius : Float
+  pub cut : Float
   pub limit : ℕ
   pub rounds : ℕ
   pub lent : Lent

@@ -1,4 +1,4 @@
--- 01, "Refusals in checking order", 5 to 11. Definitions only. Assumes nothing.
+-- 01, "Refusals in checking order", 5 to 11, and 14 of 02. Definitions only. Assumes nothing.
 use Prim.Native.Nat.{ℕ, zero, suc, _/_, _%_}
 use mathlib.Core.Bool.{Bool, true, cond, _&&_}
 use mathlib.Core.List.{List, [], _∷_}
@@ -27,6 +27,13 @@ mostRounds = 64
 -- 2^-30, for the scale and the radius, which are at most 1
 abbrev pub least : Float
 least = f64 0x3E10000000000000
+
+-- 1e-12 and 0.5, for the plane cut
+abbrev pub leastCut : Float
+leastCut = f64 0x3D719799812DEA11
+
+abbrev pub mostCut : Float
+mostCut = f64 0x3FE0000000000000
 
 -- 2^20, for a spot coordinate
 abbrev pub farSpot : Float
@@ -72,6 +79,11 @@ unfoldable pub radiusFits : Float → Bool
 unfolding between
 radiusFits radius = between least radius one64
 
+-- 14. 02, CR 2: "the cut is not within 1e-12 to 0.5".
+unfoldable pub cutFits : Float → Bool
+unfolding between
+cutFits cut = between leastCut cut mostCut
+
 -- 9, of the rotation's nine entries.
 unfoldable pub rotationFits : List (List Float) → Bool
 rotationFits m =
@@ -104,10 +116,10 @@ unfolding divides few
 countsRefused spots matches directions rounds =
     cond (divides spots matches directions) (cond (few (spots / 2) (matches / 2) (directions / 3) rounds) 0 6) 5
 
--- 7 and 8: the measures.
-unfoldable pub measuresRefused : Float → Float → ℕ
-unfolding scaleFits radiusFits
-measuresRefused scale radius = cond (scaleFits scale) (cond (radiusFits radius) 0 8) 7
+-- 7, 8 and 14, which is "checked after 8": the measures.
+unfoldable pub measuresRefused : Float → Float → Float → ℕ
+unfolding scaleFits radiusFits cutFits
+measuresRefused scale radius cut = cond (scaleFits scale) (cond (radiusFits radius) (cond (cutFits cut) 0 14) 8) 7
 
 -- 9: the numbers.
 unfoldable pub numbersRefused : List Float → List Float → List (List Float) → ℕ
@@ -127,11 +139,11 @@ orElse (suc a) b = suc a
 
 -- "Refusals in checking order": the number of the first check that fails, or 0. Of the lent lists only the lengths count.
 unfoldable pub refusalOf :
-    List Float → List ℕ → List Float → List (List Float) → Float → Float → ℕ → ℕ → ℕ → ℕ → ℕ → ℕ
+    List Float → List ℕ → List Float → List (List Float) → Float → Float → Float → ℕ → ℕ → ℕ → ℕ → ℕ → ℕ
 unfolding orElse countsRefused measuresRefused numbersRefused namesRefused
-refusalOf spots matches directions rotation scale radius limit rounds numbers floats result =
+refusalOf spots matches directions rotation scale radius cut limit rounds numbers floats result =
     orElse (countsRefused (length spots) (length matches) (length directions) rounds)
-    (orElse (measuresRefused scale radius)
+    (orElse (measuresRefused scale radius cut)
     (orElse (numbersRefused spots directions rotation)
     (namesRefused matches (length spots / 2) (length directions / 3) limit numbers floats result)))
 
@@ -140,5 +152,5 @@ unfoldable pub refusal : Call → ℕ
 unfolding refusalOf
 refusal c =
     refusalOf (c .spots) (c .given .matches) (c .directions) (c .given .rotation) (c .given .scale) (c .given .radius)
-    (c .given .limit) (c .given .rounds)
+    (c .given .cut) (c .given .limit) (c .given .rounds)
     (length (c .given .lent .numbers)) (length (c .given .lent .floats)) (length (c .given .lent .result))

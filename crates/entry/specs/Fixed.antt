@@ -11,7 +11,7 @@ use Rattle.rounding.specs.Methods.{maxF, clampF}
 use Rattle.angles.specs.SinCos.{cos}
 use Rattle.angles.specs.Inverse.{asin, atan2}
 use Rattle.pairs.specs.Candidates.{capacityOf}
-use Rattle.solve.specs.Constants.{planeCut, minusOne, two}
+use Rattle.solve.specs.Constants.{minusOne, two}
 use Rattle.solve.specs.Vector.{row, entry, dot}
 use Rattle.project.specs.Camera.{east, north}
 use Rattle.fit.specs.Rows.{spotAt}
@@ -43,16 +43,16 @@ pub record Fixed : Type 0 where
   pub far : Float
 
 -- What the head of `wcs_refine` makes of its arguments. Of the directions and of the candidate lists only the lengths count.
-unfoldable pub fixedFrom : List Float → ℕ → Float → Bool → Float → ℕ → ℕ → ℕ → Fixed
+unfoldable pub fixedFrom : List Float → ℕ → Float → Bool → Float → Float → ℕ → ℕ → ℕ → Fixed
 unfolding farthest
-fixedFrom spots directions scale mirror radius limit distances indices = record {
+fixedFrom spots directions scale mirror radius cut limit distances indices = record {
   scale = scale;
   mirror = mirror;
   radius = radius;
   limit = limit;
   count = directions / 3;
   capacity = capacityOf distances indices;
-  cut = planeCut;
+  cut = cut;
   far = farthest spots 0 (length spots / 2) zero64;
 }
 
@@ -61,7 +61,7 @@ unfoldable pub fixed : Call → Fixed
 unfolding fixedFrom
 fixed c =
     fixedFrom (c .spots) (length (c .directions)) (c .given .scale) (c .given .mirror) (c .given .radius)
-    (c .given .limit) (length (c .given .lent .distances)) (length (c .given .lent .indices))
+    (c .given .cut) (c .given .limit) (length (c .given .lent .distances)) (length (c .given .lent .indices))
 
 -- 1.5, how much wider than the field is searched, and 3.0, how many margins beyond the field a direction stays cached
 abbrev pub fieldFactor : Float

@@ -1,8 +1,8 @@
-// The bounds of refusals 6 to 9, each a constant of the type that it bounds. Ranges include both ends; neither a NaN nor an infinity lies in one.
+// The bounds of refusals 6 to 9 and 14, each a constant of the type that it bounds. Ranges include both ends; neither a NaN nor an infinity lies in one.
 ghost use mathlib.Core.Path.{_≡_};
 ghost use lib.Dec.{leb};
 ghost use Rattle.rounding.specs.Arith.{one64};
-ghost use Rattle.entry.specs.Check.{between, least, lawfulCoordinate, lawfulComponent, mostSpots, mostMatches, mostDirections, mostRounds};
+ghost use Rattle.entry.specs.Check.{between, least, leastCut, mostCut, lawfulCoordinate, lawfulComponent, mostSpots, mostMatches, mostDirections, mostRounds};
 
 // How many spots a call has.
 pub struct Spots(pub usize);
@@ -87,6 +87,24 @@ impl Radius {
     {
         if Radius::LEAST <= self.0 {
             return self.0 <= Radius::MOST;
+        }
+        false
+    }
+}
+
+// The plane cut: a direction whose denominator is at most this is dropped. 1e-12 to 0.5.
+pub struct Cut(pub f64);
+
+impl Cut {
+    pub const LEAST: f64 = 0.000000000001;
+
+    pub const MOST: f64 = 0.5;
+
+    pub fn is_lawful(self) -> bool
+        ensures { λ r. ⌜ r ≡ between leastCut (self .0) mostCut ⌝ }
+    {
+        if Cut::LEAST <= self.0 {
+            return self.0 <= Cut::MOST;
         }
         false
     }

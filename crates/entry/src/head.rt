@@ -16,7 +16,6 @@ use angles::sin;
 use fit::Pose;
 use fit::spot_at;
 use lists::smaller;
-use project::PLANE_CUT;
 use project::dot;
 use rounding::clamp;
 use rounding::max;
@@ -44,12 +43,13 @@ pub fn settings_of(
     scale: f64,
     mirror: bool,
     radius: f32,
+    cut: f64,
     limit: usize,
     distances: usize,
     indices: usize,
 ) -> Settings
     ensures { λ r.
-        ⌜ fixedOf r ≡ fixedFrom (now (spots .entry)) directions scale mirror radius limit distances indices ⌝ }
+        ⌜ fixedOf r ≡ fixedFrom (now (spots .entry)) directions scale mirror radius cut limit distances indices ⌝ }
 {
     // Those beyond the matching limit count too.
     let far = farthest_of(spots, spots.len() / 2);
@@ -62,7 +62,7 @@ pub fn settings_of(
         limit,
         count: directions / 3,
         capacity,
-        cut: PLANE_CUT,
+        cut,
         far,
     }
 }

@@ -1,11 +1,12 @@
 // What a refinement call does around its run: the checks on entry, what is computed once from the arguments, and the zeroing of its lists.
-mod bounds; // bounds.rt: the bounds of refusals 6 to 9
-mod refusals; // refusals.rt: the checks on entry, refusals 5 to 11
+mod bounds; // bounds.rt: the bounds of refusals 6 to 9 and 14
+mod refusals; // refusals.rt: the checks on entry, refusals 5 to 11 and 14
 mod head; // head.rt: what a run computes once from its arguments
 mod clearing; // clearing.rt: the lent lists as a call leaves them
 
 pub use bounds::Component;
 pub use bounds::Coordinate;
+pub use bounds::Cut;
 pub use bounds::Directions;
 pub use bounds::Matches;
 pub use bounds::Radius;

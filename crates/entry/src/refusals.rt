@@ -1,12 +1,13 @@
-// The checks on entry, refusals 5 to 11, in stages by what they look at.
+// The checks on entry, refusals 5 to 11 and 14, in stages by what they look at.
 ghost use mathlib.Core.Path.{_≡_};
 ghost use Prim.Native.Nat.{_/_, _≤_, max};
 ghost use lib.ListN.{length};
 ghost use Rattle.entry.specs.Check.{lawfulCoordinate, lawfulComponent, every, divides, few, rotationFits, numbersFit, named, long};
-ghost use Rattle.entry.specs.Check.{countsRefused, measuresRefused, numbersRefused, namesRefused, refusalOf};
+ghost use Rattle.entry.specs.Check.{countsRefused, measuresRefused, numbersRefused, namesRefused, orElse, refusalOf};
 ghost use Rattle.entry.specs.Entry.{rowFits};
 use crate::bounds::Component;
 use crate::bounds::Coordinate;
+use crate::bounds::Cut;
 use crate::bounds::Directions;
 use crate::bounds::Matches;
 use crate::bounds::Radius;
@@ -161,17 +162,20 @@ fn counts(spots: usize, matches: usize, directions: usize, rounds: usize) -> usi
     6
 }
 
-// 7 and 8.
-fn measures(scale: f64, radius: f32) -> usize
-    ensures { λ r. ⌜ r ≡ measuresRefused scale radius ⌝ }
+// 7, 8 and 14.
+fn measures(scale: f64, radius: f32, cut: f64) -> usize
+    ensures { λ r. ⌜ r ≡ measuresRefused scale radius cut ⌝ }
 {
     if !Scale(scale).is_lawful() {
         return 7;
     }
-    if Radius(radius).is_lawful() {
+    if !Radius(radius).is_lawful() {
+        return 8;
+    }
+    if Cut(cut).is_lawful() {
         return 0;
     }
-    8
+    14
 }
 
 // 9.
@@ -214,7 +218,17 @@ fn names(
     0
 }
 
-// The number of the first check that fails, or 0. Of the lists of numbers, floats and results only the lengths count.
+// What the first of two stages refuses with, or else the second.
+fn or_else(first: usize, second: usize) -> usize
+    ensures { λ r. ⌜ r ≡ orElse first second ⌝ }
+{
+    if first != 0 {
+        return first;
+    }
+    second
+}
+
+// The number of the first check that fails, or 0. The counts come before all else, since what follows is made for few. Of the lists of numbers, floats and results only the lengths count.
 pub fn refusal_of(
     spots: &[f64],
     matches: &[usize],
@@ -222,6 +236,7 @@ pub fn refusal_of(
     rotation: [[f32; 3]; 3],
     scale: f64,
     radius: f32,
+    cut: f64,
     limit: usize,
     rounds: usize,
     numbers: usize,
@@ -230,22 +245,16 @@ pub fn refusal_of(
 ) -> usize
     ensures { λ r.
         ⌜ r
-        ≡ refusalOf (now (spots .entry)) (now (matches .entry)) (now (directions .entry)) rotation scale radius limit
-        rounds numbers floats result ⌝ }
+        ≡ refusalOf (now (spots .entry)) (now (matches .entry)) (now (directions .entry)) rotation scale radius cut
+        limit rounds numbers floats result ⌝ }
 {
     let by_counts = counts(spots.len(), matches.len(), directions.len(), rounds);
     if by_counts != 0 {
         return by_counts;
     }
-    let by_measures = measures(scale, radius);
-    if by_measures != 0 {
-        return by_measures;
-    }
+    let by_measures = measures(scale, radius, cut);
     let by_numbers = numerals(spots, directions, rotation);
-    if by_numbers != 0 {
-        return by_numbers;
-    }
-    names(
+    let by_names = names(
         matches,
         spots.len() / 2,
         directions.len() / 3,
@@ -253,5 +262,6 @@ pub fn refusal_of(
         numbers,
         floats,
         result,
-    )
+    );
+    or_else(by_measures, or_else(by_numbers, by_names))
 }

@@ -13,9 +13,9 @@ use Rattle.exports.specs.Refined.{setFrom}
 abbrev pub choices : Header → List ℕ
 choices h = h .spots ∷ h .matches ∷ h .directions ∷ cond (h .mirror) 1 0 ∷ h .limit ∷ h .rounds ∷ []
 
--- The scale and the radius.
+-- The scale, the radius and the plane cut.
 abbrev pub measures : Header → List Float
-measures h = h .scale ∷ h .radius ∷ []
+measures h = h .scale ∷ h .radius ∷ h .cut ∷ []
 
 -- The rotation by rows.
 abbrev pub entries : Header → List Float

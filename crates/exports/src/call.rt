@@ -91,6 +91,7 @@ pub extern "C" fn raqembu_wcs_refine(
     scale: f64,
     mirror: bool,
     radius: f32,
+    cut: f64,
     limit: usize,
     rounds: usize,
     numbers: &mut [usize],
@@ -103,7 +104,7 @@ pub extern "C" fn raqembu_wcs_refine(
 ) -> usize
     ensures { λ r. ⌜ RefinedTo
         (called (now (spots .entry)) (now (matches .entry)) (now (directions .entry)) (rowsOf (now (rotation .entry)))
-        scale mirror radius limit rounds
+        scale mirror radius cut limit rounds
         (lists (now (numbers .entry)) (now (floats .entry)) (now (distances .entry))
         (now (indices .entry)) (now (result .entry))))
         r
@@ -122,6 +123,7 @@ pub extern "C" fn raqembu_wcs_refine(
         scale,
         mirror,
         radius,
+        cut,
         limit,
         rounds,
         numbers,

@@ -41,12 +41,13 @@ fn put_choices(l: &mut [usize], h: Header)
     put_number(l, 5, h.rounds);
 }
 
-// The scale, and the radius as an f64 has it.
+// The scale, the radius as an f64 has it, and the plane cut.
 fn put_measures(l: &mut [f64], h: Header)
     ensures { λ _. ⌜ now (l .exit) ≡ setFrom 0 (measures h) (now (l .entry)) ⌝ }
 {
     put_double(l, 0, h.scale);
     put_double(l, 1, rounding::widen(h.radius));
+    put_double(l, 2, h.cut);
 }
 
 fn put_rotation(l: &mut [f32], h: Header)
@@ -61,7 +62,7 @@ fn put_rotation(l: &mut [f32], h: Header)
 }
 
 // The number of the refusal, or 0. The spots, matches and directions of the record go to the front of their lists. `choices` takes six numbers,
-// `measures` two and `rotation` nine, or as many as the lists have places.
+// `measures` three and `rotation` nine, or as many as the lists have places.
 #[no_mangle]
 pub extern "C" fn raqembu_read_record(
     bytes: &[u8],

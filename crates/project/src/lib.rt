@@ -1,6 +1,7 @@
 // The projections of wcs_refine.rs, on angles and on directions.
 //
-// The plane cut is one named value, PLANE_CUT, and reaches every function of the fit as an argument.
+// The plane cut reaches every function of the fit as an argument, since each call gives its own. `tan_project`, which no run uses, keeps the
+// Rust's number, PLANE_CUT.
 mod project; // project.rt: the projections on angles
 mod camera; // camera.rt: the camera's axes, and directions on them
 

@@ -9,11 +9,12 @@ use lib.Dec.{leb}
 use lib.ListN.{length, take, drop}
 use lib.Seq.{length-take-le}
 use lib.Ieee.{Float, Format, binary32, binary64}
-use Rattle.record.specs.Reading.{Read, place}
+use Rattle.record.specs.Reading.{Read}
 use Rattle.lists.specs.Fronted.{fronted}
 use Rattle.record.specs.Header.{floatsOf, refusedHeader, headerOf, intake, room, readRecord, taken as takenFrom}
 use Rattle.record.specs.Layout.{Exposure}
-use Rattle.record.specs.Passes.{exposure, Standing, Lawful, FoundIn, headerFrom}
+use Rattle.record.specs.Head.{headSpots, headMatches, headDirections, place, exposure}
+use Rattle.record.specs.Passes.{Standing, Lawful, FoundIn, headerFrom}
 use Rattle.record.specs.declared.Header.{Header}
 use Rattle.record.specs.declared.whole.Found.{Found}
 use Rattle.record.proofs.WholeSteps.{run-length}
@@ -62,13 +63,13 @@ taken-in {A = A} of l x {k} {bits} {bytes} {at} {vs} s h same f =
 
 -- ---- the header
 
-pub header-same : (h spots matches directions : List ℕ) → length spots ≡ 2 * place h 0 → length matches ≡ 2 * place h 1 → length directions ≡ 3 * place h 2
+pub header-same : (h spots matches directions : List ℕ) → length spots ≡ 2 * place h headSpots → length matches ≡ 2 * place h headMatches → length directions ≡ 3 * place h headDirections
     → headerFrom h ≡ headerOf (exposure h spots matches directions)
 unfolding headerFrom headerOf
 header-same h spots matches directions a b c =
-    let x : place h 0 ≡ length spots / 2 = omega arith in
-    let y : place h 1 ≡ length matches / 2 = omega arith in
-    let z : place h 2 ≡ length directions / 3 = omega arith in
+    let x : place h headSpots ≡ length spots / 2 = omega arith in
+    let y : place h headMatches ≡ length matches / 2 = omega arith in
+    let z : place h headDirections ≡ length directions / 3 = omega arith in
     cc
 
 -- ---- the whole
@@ -86,13 +87,13 @@ module _ (bytes : List ℕ) (f : Found) (p : FoundIn bytes f) (ss : List Float) 
     e = exposure (f .numbers) (q .spots) (q .matches) (q .directions)
 
     abbrev n : ℕ
-    n = 2 * place (f .numbers) 0
+    n = 2 * place (f .numbers) headSpots
 
     abbrev m : ℕ
-    m = 2 * place (f .numbers) 1
+    m = 2 * place (f .numbers) headMatches
 
     abbrev d : ℕ
-    d = 3 * place (f .numbers) 2
+    d = 3 * place (f .numbers) headDirections
 
     by-room : (t : Bool) → room e ss ms ds ≡ t
         → cond t (intake (headerOf e) (fronted (floatsOf binary64 (q .spots)) ss) (fronted (q .matches) ms) (fronted (floatsOf binary32 (q .directions)) ds)) (intake (refusedHeader 11) ss ms ds)

@@ -3,14 +3,15 @@ use mathlib.Core.Path.{_≡_, refl, sym, ap, subst, _∙_}
 use mathlib.Core.List.{List, [], _∷_, _++_, append-assoc}
 use Prim.Native.Nat.{ℕ, zero, suc, _+_, _-_, _*_, _/_, _^_, _≤_, _<_}
 use native.Mathlib.Omega.{arith}
-use lib.ListN.{length, drop, replicate, length-replicate}
+use lib.ListN.{length, take, drop, replicate, length-replicate}
+use lib.Seq.{drop-cons}
 use Rattle.record.specs.declared.Numbered.{Numbered}
 use Rattle.record.specs.declared.Numbered.the-variants.{Got, Short, Wrong}
 use Rattle.record.specs.Number.{written, number}
 use Rattle.record.specs.Layout.{Exposure, Field, field, each, fields, writtenFields, recordOf, AllFit, Whole}
-use Rattle.record.specs.Reading.{Values, values, fault, onward, following, numbers, run, headBits, Read, refused, place, closed, then, body, reading}
+use Rattle.record.specs.Reading.{Values, values, fault, onward, following, numbers, run, Read, refused, closed, then, body, reading}
+use Rattle.record.specs.Head.{headSpots, headMatches, headDirections, headRotation, headBits, place, exposure}
 use Rattle.record.specs.Claims.{Octets}
-use Rattle.record.specs.Passes.{exposure}
 use Rattle.record.proofs.RunSteps.{one, run-one, numbers-one}
 use Rattle.record.proofs.WholeSteps.{by-head, after-spots, after-matches, body-is}
 use Rattle.record.proofs.Laws.{Out, got, bad, Laws, Faults, Pair, pair, paired, onto, onto-faults, mapped, both-laws, mapped-laws, mapped-faults}
@@ -122,6 +123,13 @@ fits-length [] (v ∷ vs) f = absurd f
 fits-length (b ∷ bs) [] f = absurd f
 fits-length (b ∷ bs) (v ∷ vs) f = ap suc (fits-length bs vs (f .1))
 
+fits-drop : (k : ℕ) (bs vs : List ℕ) → Fits bs vs → Fits (drop k bs) (drop k vs)
+fits-drop zero bs vs f = f
+fits-drop (suc k) [] [] f = tt
+fits-drop (suc k) [] (v ∷ vs) f = absurd f
+fits-drop (suc k) (b ∷ bs) [] f = absurd f
+fits-drop (suc k) (b ∷ bs) (v ∷ vs) f = fits-drop k bs vs (f .1)
+
 same-length : (k b : ℕ) (vs : List ℕ) → Fits (replicate k b) vs → length vs ≡ k
 same-length k b vs f = fits-length (replicate k b) vs f ∙ length-replicate k b
 
@@ -157,12 +165,42 @@ unfolding writtenFields
 written-append [] gs = refl
 written-append (f ∷ fs) gs = ap (λ (l : List ℕ). written (f .value) ++ l) (written-append fs gs) ∙ sym (append-assoc (written (f .value)) (writtenFields fs) (writtenFields gs))
 
-written-each : (b : ℕ) (vs : List ℕ) → writtenFields (each b vs) ≡ wrote vs
-unfolding writtenFields each wrote
-written-each b [] = refl
-written-each b (v ∷ vs) = ap (λ (l : List ℕ). written v ++ l) (written-each b vs)
+-- The bits of fields, and their numbers.
+abbrev bitsOf : List Field → List ℕ
+bitsOf [] = []
+bitsOf (f ∷ fs) = f .bits ∷ bitsOf fs
 
--- ---- a record, by its first numbers and its three lists
+abbrev valuesOf : List Field → List ℕ
+valuesOf [] = []
+valuesOf (f ∷ fs) = f .value ∷ valuesOf fs
+
+bits-each : (b : ℕ) (vs : List ℕ) → bitsOf (each b vs) ≡ replicate (length vs) b
+unfolding each
+bits-each b [] = refl
+bits-each b (v ∷ vs) = ap (λ (l : List ℕ). b ∷ l) (bits-each b vs)
+
+values-each : (b : ℕ) (vs : List ℕ) → valuesOf (each b vs) ≡ vs
+unfolding each
+values-each b [] = refl
+values-each b (v ∷ vs) = ap (λ (l : List ℕ). v ∷ l) (values-each b vs)
+
+fields-fit : (fs : List Field) → AllFit fs → Fits (bitsOf fs) (valuesOf fs)
+fields-fit [] a = tt
+fields-fit (f ∷ fs) a = (a .0, fields-fit fs (a .1))
+
+fit-fields : (fs : List Field) → Fits (bitsOf fs) (valuesOf fs) → AllFit fs
+fit-fields [] a = tt
+fit-fields (f ∷ fs) a = (a .0, fit-fields fs (a .1))
+
+written-fields : (fs : List Field) → writtenFields fs ≡ wrote (valuesOf fs)
+unfolding writtenFields wrote
+written-fields [] = refl
+written-fields (f ∷ fs) = ap (λ (l : List ℕ). written (f .value) ++ l) (written-fields fs)
+
+written-each : (b : ℕ) (vs : List ℕ) → writtenFields (each b vs) ≡ wrote vs
+written-each b vs = written-fields (each b vs) ∙ ap wrote (values-each b vs)
+
+-- ---- a record, by its head and its three lists
 
 abbrev pub Parts : Type 0
 Parts = Pair (List ℕ) (Pair (List ℕ) (Pair (List ℕ) (List ℕ)))
@@ -172,24 +210,26 @@ made p = exposure (p .one) (p .two .one) (p .two .two .one) (p .two .two .two)
 
 headOf : Exposure → List ℕ
 headOf e =
-    length (e .spots) / 2 ∷ length (e .matches) / 2 ∷ length (e .directions) / 3 ∷ e .mirror ∷ e .scale ∷ e .radius ∷ e .limit ∷ e .rounds ∷ e .rotation
+    length (e .spots) / 2 ∷ length (e .matches) / 2 ∷ length (e .directions) / 3
+    ∷ e .mirror ∷ e .scale ∷ e .radius ∷ e .cut ∷ e .limit ∷ e .rounds ∷ e .rotation
 
 headFields : Exposure → List Field
 headFields e =
     field 32 (length (e .spots) / 2) ∷ field 32 (length (e .matches) / 2) ∷ field 32 (length (e .directions) / 3)
-    ∷ field 1 (e .mirror) ∷ field 64 (e .scale) ∷ field 32 (e .radius) ∷ field 32 (e .limit) ∷ field 32 (e .rounds) ∷ each 32 (e .rotation)
+    ∷ field 1 (e .mirror) ∷ field 64 (e .scale) ∷ field 32 (e .radius) ∷ field 64 (e .cut)
+    ∷ field 32 (e .limit) ∷ field 32 (e .rounds) ∷ each 32 (e .rotation)
 
 parts : Exposure → Parts
 parts e = pair (headOf e) (pair (e .spots) (pair (e .matches) (e .directions)))
 
 abbrev OkD : List ℕ → List ℕ → Type 0
-OkD h d = Fits (replicate (3 * place h 2) 32) d
+OkD h d = Fits (replicate (3 * place h headDirections) 32) d
 
 abbrev OkM : List ℕ → Pair (List ℕ) (List ℕ) → Type 0
-OkM h p = Fits (replicate (2 * place h 1) 32) (p .one) × OkD h (p .two)
+OkM h p = Fits (replicate (2 * place h headMatches) 32) (p .one) × OkD h (p .two)
 
 abbrev OkS : List ℕ → Pair (List ℕ) (Pair (List ℕ) (List ℕ)) → Type 0
-OkS h p = Fits (replicate (2 * place h 0) 64) (p .one) × OkM h (p .two)
+OkS h p = Fits (replicate (2 * place h headSpots) 64) (p .one) × OkM h (p .two)
 
 abbrev OkParts : Parts → Type 0
 OkParts p = Fits headBits (p .one) × OkS (p .one) (p .two)
@@ -207,11 +247,17 @@ fields-are : (e : Exposure) → fields e ≡ headFields e ++ each 64 (e .spots) 
 unfolding fields headFields
 fields-are e = refl
 
+bits-head : (e : Exposure) → length (e .rotation) ≡ 9 → bitsOf (headFields e) ≡ headBits
+unfolding headFields
+bits-head e nine =
+    ap (λ (l : List ℕ). take headRotation headBits ++ l) (bits-each 32 (e .rotation) ∙ ap (λ (k : ℕ). replicate k 32) nine)
+
+values-head : (e : Exposure) → valuesOf (headFields e) ≡ headOf e
+unfolding headFields headOf
+values-head e = ap (λ (l : List ℕ). take headRotation (headOf e) ++ l) (values-each 32 (e .rotation))
+
 written-head : (e : Exposure) → writtenFields (headFields e) ≡ wrote (headOf e)
-unfolding headFields headOf writtenFields wrote
-written-head e =
-    ap (λ (l : List ℕ). written (length (e .spots) / 2) ++ (written (length (e .matches) / 2) ++ (written (length (e .directions) / 3) ++ (written (e .mirror) ++ (written (e .scale)
-    ++ (written (e .radius) ++ (written (e .limit) ++ (written (e .rounds) ++ l)))))))) (written-each 32 (e .rotation))
+written-head e = written-fields (headFields e) ∙ ap wrote (values-head e)
 
 record-parts : (e : Exposure) → recordOf e ≡ writeParts (parts e)
 unfolding recordOf parts
@@ -230,60 +276,14 @@ record-parts e =
     ∙ ap (λ (l : List ℕ). wrote (headOf e) ++ (wrote (e .spots) ++ (wrote (e .matches) ++ l))) (written-each 32 (e .directions))
 
 head-fits : (e : Exposure) → length (e .rotation) ≡ 9 → AllFit (headFields e) → Fits headBits (headOf e)
-unfolding headFields headOf
-head-fits e nine a = (
-  a .0,
-  (
-    a .1 .0,
-    (
-      a .1 .1 .0,
-      (
-        a .1 .1 .1 .0,
-        (
-          a .1 .1 .1 .1 .0,
-          (
-            a .1 .1 .1 .1 .1 .0,
-            (
-              a .1 .1 .1 .1 .1 .1 .0,
-              (
-                a .1 .1 .1 .1 .1 .1 .1 .0,
-                fit-as 9 32 (e .rotation) nine (a .1 .1 .1 .1 .1 .1 .1 .1),
-              ),
-            ),
-          ),
-        ),
-      ),
-    ),
-  ),
-)
+head-fits e nine a =
+    let f = subst (Fits (bitsOf (headFields e))) (values-head e) (fields-fit (headFields e) a) in
+    subst (λ (bs : List ℕ). Fits bs (headOf e)) (bits-head e nine) f
 
-fits-head : (e : Exposure) → Fits headBits (headOf e) → AllFit (headFields e)
-unfolding headFields headOf
-fits-head e a = (
-  a .0,
-  (
-    a .1 .0,
-    (
-      a .1 .1 .0,
-      (
-        a .1 .1 .1 .0,
-        (
-          a .1 .1 .1 .1 .0,
-          (
-            a .1 .1 .1 .1 .1 .0,
-            (
-              a .1 .1 .1 .1 .1 .1 .0,
-              (
-                a .1 .1 .1 .1 .1 .1 .1 .0,
-                each-fit 9 32 (e .rotation) (a .1 .1 .1 .1 .1 .1 .1 .1),
-              ),
-            ),
-          ),
-        ),
-      ),
-    ),
-  ),
-)
+fits-head : (e : Exposure) → length (e .rotation) ≡ 9 → Fits headBits (headOf e) → AllFit (headFields e)
+fits-head e nine a =
+    let f = subst (λ (bs : List ℕ). Fits bs (headOf e)) (sym (bits-head e nine)) a in
+    fit-fields (headFields e) (subst (Fits (bitsOf (headFields e))) (sym (values-head e)) f)
 
 whole-ok : (e : Exposure) → Whole e → OkParts (parts e)
 unfolding parts headOf
@@ -307,37 +307,45 @@ whole-ok e w =
 
 ok-whole : (e : Exposure) → OkParts (parts e) → Whole e
 unfolding parts headOf
-ok-whole e k = record {
-  rotation = same-length 9 32 (e .rotation) (k .0 .1 .1 .1 .1 .1 .1 .1 .1);
-  spots = omega (arith, same-length (2 * (length (e .spots) / 2)) 64 (e .spots) (k .1 .0));
-  matches = omega (arith, same-length (2 * (length (e .matches) / 2)) 32 (e .matches) (k .1 .1 .0));
-  directions = omega (arith, same-length (3 * (length (e .directions) / 3)) 32 (e .directions) (k .1 .1 .1));
-  fit = subst AllFit (sym (fields-are e))
-      (fit-append (headFields e ++ each 64 (e .spots) ++ each 32 (e .matches)) (each 32 (e .directions))
-      (fit-append (headFields e ++ each 64 (e .spots)) (each 32 (e .matches))
-      (fit-append (headFields e) (each 64 (e .spots)) (fits-head e (k .0)) (each-fit (2 * (length (e .spots) / 2)) 64 (e .spots) (k .1 .0)))
-      (each-fit (2 * (length (e .matches) / 2)) 32 (e .matches) (k .1 .1 .0)))
-      (each-fit (3 * (length (e .directions) / 3)) 32 (e .directions) (k .1 .1 .1)));
-}
+ok-whole e k =
+    let nine = same-length 9 32 (e .rotation) (fits-drop headRotation headBits (headOf e) (k .0)) in
+    record {
+      rotation = nine;
+      spots = omega (arith, same-length (2 * (length (e .spots) / 2)) 64 (e .spots) (k .1 .0));
+      matches = omega (arith, same-length (2 * (length (e .matches) / 2)) 32 (e .matches) (k .1 .1 .0));
+      directions = omega (arith, same-length (3 * (length (e .directions) / 3)) 32 (e .directions) (k .1 .1 .1));
+      fit = subst AllFit (sym (fields-are e))
+          (fit-append (headFields e ++ each 64 (e .spots) ++ each 32 (e .matches)) (each 32 (e .directions))
+          (fit-append (headFields e ++ each 64 (e .spots)) (each 32 (e .matches))
+          (fit-append (headFields e) (each 64 (e .spots)) (fits-head e nine (k .0)) (each-fit (2 * (length (e .spots) / 2)) 64 (e .spots) (k .1 .0)))
+          (each-fit (2 * (length (e .matches) / 2)) 32 (e .matches) (k .1 .1 .0)))
+          (each-fit (3 * (length (e .directions) / 3)) 32 (e .directions) (k .1 .1 .1)));
+    }
 
 made-parts : (e : Exposure) → made (parts e) ≡ e
 unfolding parts headOf
 made-parts e = refl
 
-head-made : (h s m d : List ℕ) → Fits headBits h → length s ≡ 2 * place h 0 → length m ≡ 2 * place h 1 → length d ≡ 3 * place h 2 → headOf (exposure h s m d) ≡ h
-unfolding headOf
-head-made [] s m d f a b c = absurd f
-head-made (h0 ∷ []) s m d f a b c = absurd (f .1)
-head-made (h0 ∷ h1 ∷ []) s m d f a b c = absurd (f .1 .1)
-head-made (h0 ∷ h1 ∷ h2 ∷ []) s m d f a b c = absurd (f .1 .1 .1)
-head-made (h0 ∷ h1 ∷ h2 ∷ h3 ∷ []) s m d f a b c = absurd (f .1 .1 .1 .1)
-head-made (h0 ∷ h1 ∷ h2 ∷ h3 ∷ h4 ∷ []) s m d f a b c = absurd (f .1 .1 .1 .1 .1)
-head-made (h0 ∷ h1 ∷ h2 ∷ h3 ∷ h4 ∷ h5 ∷ []) s m d f a b c = absurd (f .1 .1 .1 .1 .1 .1)
-head-made (h0 ∷ h1 ∷ h2 ∷ h3 ∷ h4 ∷ h5 ∷ h6 ∷ []) s m d f a b c = absurd (f .1 .1 .1 .1 .1 .1 .1)
-head-made (h0 ∷ h1 ∷ h2 ∷ h3 ∷ h4 ∷ h5 ∷ h6 ∷ h7 ∷ r) s m d f a b c =
-    let x : length s / 2 ≡ h0 = omega arith in
-    let y : length m / 2 ≡ h1 = omega arith in
-    let z : length d / 3 ≡ h2 = omega arith in
+-- A list is its numbers one by one up to a place, and the rest.
+unfoldable listed : List ℕ → ℕ → ℕ → List ℕ
+listed h i zero = drop i h
+listed h i (suc k) = place h i ∷ listed h (suc i) k
+
+listed-is : (h : List ℕ) (i k : ℕ) → i + k ≤ length h → listed h i k ≡ drop i h
+unfolding listed
+listed-is h i zero n = refl
+listed-is h i (suc k) n =
+    let m : suc i + k ≤ length h = omega arith in
+    ap (λ (l : List ℕ). place h i ∷ l) (listed-is h (suc i) k m) ∙ sym (drop-cons h i 0 (omega arith))
+
+head-made : (h s m d : List ℕ) → Fits headBits h → length s ≡ 2 * place h headSpots → length m ≡ 2 * place h headMatches
+    → length d ≡ 3 * place h headDirections → headOf (exposure h s m d) ≡ h
+unfolding headOf listed
+head-made h s m d f a b c =
+    let x : length s / 2 ≡ place h headSpots = omega arith in
+    let y : length m / 2 ≡ place h headMatches = omega arith in
+    let z : length d / 3 ≡ place h headDirections = omega arith in
+    let w : listed h 0 headRotation ≡ h = listed-is h 0 headRotation (omega (arith, fits-length headBits h f)) in
     cc
 
 parts-made : (p : Parts) → OkParts p → parts (made p) ≡ p
@@ -345,8 +353,8 @@ unfolding parts
 parts-made p k =
     let h = p .one in
     ap (λ (l : List ℕ). pair l (p .two))
-    (head-made h (p .two .one) (p .two .two .one) (p .two .two .two) (k .0) (same-length (2 * place h 0) 64 (p .two .one) (k .1 .0))
-    (same-length (2 * place h 1) 32 (p .two .two .one) (k .1 .1 .0)) (same-length (3 * place h 2) 32 (p .two .two .two) (k .1 .1 .1)))
+    (head-made h (p .two .one) (p .two .two .one) (p .two .two .two) (k .0) (same-length (2 * place h headSpots) 64 (p .two .one) (k .1 .0))
+    (same-length (2 * place h headMatches) 32 (p .two .two .one) (k .1 .1 .0)) (same-length (3 * place h headDirections) 32 (p .two .two .two) (k .1 .1 .1)))
 
 -- ---- the record as a reader
 
@@ -355,13 +363,13 @@ narrow zero b h = tt
 narrow (suc k) b h = (h, narrow k b h)
 
 abbrev readD : List ℕ → List ℕ → Out (List ℕ)
-readD h = many (replicate (3 * place h 2) 32)
+readD h = many (replicate (3 * place h headDirections) 32)
 
 abbrev readM : List ℕ → List ℕ → Out (Pair (List ℕ) (List ℕ))
-readM h l = onto (many (replicate (2 * place h 1) 32) l) (λ m. readD h)
+readM h l = onto (many (replicate (2 * place h headMatches) 32) l) (λ m. readD h)
 
 abbrev readS : List ℕ → List ℕ → Out (Pair (List ℕ) (Pair (List ℕ) (List ℕ)))
-readS h l = onto (many (replicate (2 * place h 0) 64) l) (λ s. readM h)
+readS h l = onto (many (replicate (2 * place h headSpots) 64) l) (λ s. readM h)
 
 abbrev readParts : List ℕ → Out Parts
 readParts l = onto (many headBits l) readS
@@ -370,13 +378,13 @@ abbrev pub parse : List ℕ → Out Exposure
 parse l = mapped made (readParts l)
 
 d-faults : (h l : List ℕ) → Faults (readD h l)
-d-faults h l = many-faults (replicate (3 * place h 2) 32) l
+d-faults h l = many-faults (replicate (3 * place h headDirections) 32) l
 
 m-faults : (h l : List ℕ) → Faults (readM h l)
-m-faults h l = onto-faults (many (replicate (2 * place h 1) 32) l) (λ m. readD h) (many-faults (replicate (2 * place h 1) 32) l) (λ m r. d-faults h r)
+m-faults h l = onto-faults (many (replicate (2 * place h headMatches) 32) l) (λ m. readD h) (many-faults (replicate (2 * place h headMatches) 32) l) (λ m r. d-faults h r)
 
 s-faults : (h l : List ℕ) → Faults (readS h l)
-s-faults h l = onto-faults (many (replicate (2 * place h 0) 64) l) (λ s. readM h) (many-faults (replicate (2 * place h 0) 64) l) (λ s r. m-faults h r)
+s-faults h l = onto-faults (many (replicate (2 * place h headSpots) 64) l) (λ s. readM h) (many-faults (replicate (2 * place h headSpots) 64) l) (λ s r. m-faults h r)
 
 parts-faults : (l : List ℕ) → Faults (readParts l)
 parts-faults l = onto-faults (many headBits l) readS (many-faults headBits l) s-faults
@@ -386,20 +394,20 @@ parse-faults l = mapped-faults made (readParts l) (parts-faults l)
 
 m-laws : (h : List ℕ) → Laws (readM h) writeM (OkM h)
 m-laws h =
-    both-laws (many (replicate (2 * place h 1) 32)) (λ m. readD h) wrote (λ m. wrote) (Fits (replicate (2 * place h 1) 32)) (λ m. OkD h)
-    (many-laws (replicate (2 * place h 1) 32) (narrow (2 * place h 1) 32 (omega arith)))
-    (λ m k. many-laws (replicate (3 * place h 2) 32) (narrow (3 * place h 2) 32 (omega arith))) (m-faults h)
+    both-laws (many (replicate (2 * place h headMatches) 32)) (λ m. readD h) wrote (λ m. wrote) (Fits (replicate (2 * place h headMatches) 32)) (λ m. OkD h)
+    (many-laws (replicate (2 * place h headMatches) 32) (narrow (2 * place h headMatches) 32 (omega arith)))
+    (λ m k. many-laws (replicate (3 * place h headDirections) 32) (narrow (3 * place h headDirections) 32 (omega arith))) (m-faults h)
 
 s-laws : (h : List ℕ) → Laws (readS h) writeS (OkS h)
 s-laws h =
-    both-laws (many (replicate (2 * place h 0) 64)) (λ s. readM h) wrote (λ s. writeM) (Fits (replicate (2 * place h 0) 64)) (λ s. OkM h)
-    (many-laws (replicate (2 * place h 0) 64) (narrow (2 * place h 0) 64 (omega arith))) (λ s k. m-laws h) (s-faults h)
+    both-laws (many (replicate (2 * place h headSpots) 64)) (λ s. readM h) wrote (λ s. writeM) (Fits (replicate (2 * place h headSpots) 64)) (λ s. OkM h)
+    (many-laws (replicate (2 * place h headSpots) 64) (narrow (2 * place h headSpots) 64 (omega arith))) (λ s k. m-laws h) (s-faults h)
 
 parts-laws : Laws readParts writeParts OkParts
 parts-laws = both-laws (many headBits) readS wrote (λ h. writeS) (Fits headBits) OkS (many-laws headBits heads) (λ h k. s-laws h) parts-faults
   where
     heads : Narrow headBits
-    heads = (omega arith, (omega arith, (omega arith, (omega arith, (omega arith, (omega arith, (omega arith, (omega arith, narrow 9 32 (omega arith)))))))))
+    heads = (omega arith, (omega arith, (omega arith, (omega arith, (omega arith, (omega arith, (omega arith, (omega arith, (omega arith, narrow 9 32 (omega arith))))))))))
 
 pub record-laws : Laws parse recordOf Whole
 record-laws = mapped-laws readParts writeParts OkParts parts-laws made recordOf Whole to of
@@ -423,19 +431,19 @@ finish-d h s m (bad n) = refl
 
 finish-m : (h s : List ℕ) (y : Out (List ℕ)) → then (asValues y) (λ m rest. after-matches h s m rest) ≡ finish (mapped made (paired h (paired s (onto y (λ m. readD h)))))
 unfolding then asValues mapped onto finish after-matches
-finish-m h s (got m r) = ap (λ (x : Values). then x (λ d rest. closed (exposure h s m d) rest)) (run-many (3 * place h 2) 32 r) ∙ finish-d h s m (readD h r)
+finish-m h s (got m r) = ap (λ (x : Values). then x (λ d rest. closed (exposure h s m d) rest)) (run-many (3 * place h headDirections) 32 r) ∙ finish-d h s m (readD h r)
 finish-m h s (bad n) = refl
 
 finish-s : (h : List ℕ) (y : Out (List ℕ)) → then (asValues y) (λ s rest. after-spots h s rest) ≡ finish (mapped made (paired h (onto y (λ s. readM h))))
 unfolding then asValues mapped onto finish after-spots
 finish-s h (got s r) =
-    ap (λ (x : Values). then x (λ m rest. after-matches h s m rest)) (run-many (2 * place h 1) 32 r) ∙ finish-m h s (many (replicate (2 * place h 1) 32) r)
+    ap (λ (x : Values). then x (λ m rest. after-matches h s m rest)) (run-many (2 * place h headMatches) 32 r) ∙ finish-m h s (many (replicate (2 * place h headMatches) 32) r)
 finish-s h (bad n) = refl
 
 finish-h : (y : Out (List ℕ)) → then (asValues y) (λ h rest. body h rest) ≡ finish (mapped made (onto y readS))
 unfolding then asValues mapped onto finish
 finish-h (got h r) =
-    body-is h r ∙ ap (λ (x : Values). then x (λ s rest. after-spots h s rest)) (run-many (2 * place h 0) 64 r) ∙ finish-s h (many (replicate (2 * place h 0) 64) r)
+    body-is h r ∙ ap (λ (x : Values). then x (λ s rest. after-spots h s rest)) (run-many (2 * place h headSpots) 64 r) ∙ finish-s h (many (replicate (2 * place h headSpots) 64) r)
 finish-h (bad n) = refl
 
 pub reading-is : (l : List ℕ) → length l ≤ 65536 → reading l ≡ finish (parse l)

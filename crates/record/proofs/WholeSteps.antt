@@ -1,4 +1,4 @@
--- A record from its first numbers to its last: the first fault is the refusal, and without one the lists stand at known places. Assumes nothing.
+-- A record from its head to its last number: the first fault is the refusal, and without one the lists stand at known places. Assumes nothing.
 use mathlib.Core.Path.{_≡_, refl, sym, ap, subst, _∙_}
 use mathlib.Core.Bool.{Bool, cond}
 use mathlib.Core.List.{List, [], _∷_}
@@ -10,9 +10,10 @@ use lib.Seq.{drop-cons}
 use Rattle.record.specs.declared.Numbered.{Numbered}
 use Rattle.record.specs.declared.Numbered.the-variants.{Got, Short, Wrong}
 use Rattle.record.specs.Number.{number}
-use Rattle.record.specs.Reading.{Values, values, fault, onward, following, numbers, run, headBits, Read, refused, whole, place, closed, then, body, reading}
+use Rattle.record.specs.Reading.{Values, values, fault, onward, following, numbers, run, Read, refused, whole, closed, then, body, reading}
 use Rattle.record.specs.Layout.{Exposure}
-use Rattle.record.specs.Passes.{answered, Fit, exposure, FoundIn}
+use Rattle.record.specs.Head.{headSpots, headMatches, headDirections, headBits, place, exposure}
+use Rattle.record.specs.Passes.{answered, Fit, FoundIn}
 use Rattle.record.specs.declared.whole.Found.{Found}
 use Rattle.record.proofs.RunSteps.{taken, one, run-one, numbers-one}
 
@@ -88,12 +89,12 @@ unfolding then
 then-fault f e = ap (λ (y : Values). then y f) e
 
 unfoldable pub after-matches : List ℕ → List ℕ → List ℕ → List ℕ → Read
-after-matches h spots matches bytes = then (run (3 * place h 2) 32 bytes) (λ directions rest. closed (exposure h spots matches directions) rest)
+after-matches h spots matches bytes = then (run (3 * place h headDirections) 32 bytes) (λ directions rest. closed (exposure h spots matches directions) rest)
 
 unfoldable pub after-spots : List ℕ → List ℕ → List ℕ → Read
-after-spots h spots bytes = then (run (2 * place h 1) 32 bytes) (λ matches rest. after-matches h spots matches rest)
+after-spots h spots bytes = then (run (2 * place h headMatches) 32 bytes) (λ matches rest. after-matches h spots matches rest)
 
-pub body-is : (h bytes : List ℕ) → body h bytes ≡ then (run (2 * place h 0) 64 bytes) (λ spots rest. after-spots h spots rest)
+pub body-is : (h bytes : List ℕ) → body h bytes ≡ then (run (2 * place h headSpots) 64 bytes) (λ spots rest. after-spots h spots rest)
 unfolding body after-spots after-matches
 body-is h bytes = refl
 
@@ -106,29 +107,29 @@ module _ (bytes : List ℕ) (small : length bytes ≤ 65536) where
   head-bad e = by-head ∙ then-fault (λ h rest. body h rest) e
 
   module _ (h rest : List ℕ) (e : numbers headBits bytes ≡ values h rest) where
-    read-body : reading bytes ≡ then (run (2 * place h 0) 64 rest) (λ spots rest. after-spots h spots rest)
+    read-body : reading bytes ≡ then (run (2 * place h headSpots) 64 rest) (λ spots rest. after-spots h spots rest)
     read-body = by-head ∙ then-values (λ h rest. body h rest) e ∙ body-is h rest
 
-    pub spots-bad : {n : ℕ} → run (2 * place h 0) 64 rest ≡ fault n → reading bytes ≡ refused n
+    pub spots-bad : {n : ℕ} → run (2 * place h headSpots) 64 rest ≡ fault n → reading bytes ≡ refused n
     spots-bad f = read-body ∙ then-fault (λ spots rest. after-spots h spots rest) f
 
-    module _ (spots rest1 : List ℕ) (f : run (2 * place h 0) 64 rest ≡ values spots rest1) where
-      read-spots : reading bytes ≡ then (run (2 * place h 1) 32 rest1) (λ matches rest. after-matches h spots matches rest)
+    module _ (spots rest1 : List ℕ) (f : run (2 * place h headSpots) 64 rest ≡ values spots rest1) where
+      read-spots : reading bytes ≡ then (run (2 * place h headMatches) 32 rest1) (λ matches rest. after-matches h spots matches rest)
       unfolding after-spots
       read-spots = read-body ∙ then-values (λ spots rest. after-spots h spots rest) f
 
-      pub matches-bad : {n : ℕ} → run (2 * place h 1) 32 rest1 ≡ fault n → reading bytes ≡ refused n
+      pub matches-bad : {n : ℕ} → run (2 * place h headMatches) 32 rest1 ≡ fault n → reading bytes ≡ refused n
       matches-bad g = read-spots ∙ then-fault (λ matches rest. after-matches h spots matches rest) g
 
-      module _ (matches rest2 : List ℕ) (g : run (2 * place h 1) 32 rest1 ≡ values matches rest2) where
-        read-matches : reading bytes ≡ then (run (3 * place h 2) 32 rest2) (λ directions rest. closed (exposure h spots matches directions) rest)
+      module _ (matches rest2 : List ℕ) (g : run (2 * place h headMatches) 32 rest1 ≡ values matches rest2) where
+        read-matches : reading bytes ≡ then (run (3 * place h headDirections) 32 rest2) (λ directions rest. closed (exposure h spots matches directions) rest)
         unfolding after-matches
         read-matches = read-spots ∙ then-values (λ matches rest. after-matches h spots matches rest) g
 
-        pub directions-bad : {n : ℕ} → run (3 * place h 2) 32 rest2 ≡ fault n → reading bytes ≡ refused n
+        pub directions-bad : {n : ℕ} → run (3 * place h headDirections) 32 rest2 ≡ fault n → reading bytes ≡ refused n
         directions-bad k = read-matches ∙ then-fault (λ directions rest. closed (exposure h spots matches directions) rest) k
 
-        pub read-all : (directions rest3 : List ℕ) → run (3 * place h 2) 32 rest2 ≡ values directions rest3
+        pub read-all : (directions rest3 : List ℕ) → run (3 * place h headDirections) 32 rest2 ≡ values directions rest3
             → reading bytes ≡ closed (exposure h spots matches directions) rest3
         read-all directions rest3 k = read-matches ∙ then-values (λ directions rest. closed (exposure h spots matches directions) rest) k
 

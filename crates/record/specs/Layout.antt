@@ -10,6 +10,7 @@ pub record Exposure : Type 0 where
   pub mirror : ℕ
   pub scale : ℕ
   pub radius : ℕ
+  pub cut : ℕ
   pub limit : ℕ
   pub rounds : ℕ
   pub rotation : List ℕ
@@ -33,11 +34,13 @@ each b (v ∷ vs) = field b v ∷ each b vs
 
 -- "In order: the counts of spots, matches and directions (32 bits each); mirror (1 bit, 1 is `parity_flip`); scale bits (64); radius bits (32);
 -- matching limit (32); rounds (32); nine rotation entries by rows (32 each); spot coordinates (64); match indices (32); components (32)."
+-- 02, CR 2: "The record gets the number's 64 bits after the radius": the plane cut.
 unfoldable pub fields : Exposure → List Field
 unfolding each
 fields e =
     field 32 (length (e .spots) / 2) ∷ field 32 (length (e .matches) / 2) ∷ field 32 (length (e .directions) / 3)
-    ∷ field 1 (e .mirror) ∷ field 64 (e .scale) ∷ field 32 (e .radius) ∷ field 32 (e .limit) ∷ field 32 (e .rounds)
+    ∷ field 1 (e .mirror) ∷ field 64 (e .scale) ∷ field 32 (e .radius) ∷ field 64 (e .cut)
+    ∷ field 32 (e .limit) ∷ field 32 (e .rounds)
     ∷ each 32 (e .rotation) ++ each 64 (e .spots) ++ each 32 (e .matches) ++ each 32 (e .directions)
 
 -- Each number in its shortest form, one after another.

@@ -1,4 +1,4 @@
--- What the reader's inner functions hand to each other: the first numbers, the places of the lists, and what stands there. Definitions only. Assumes nothing.
+-- What the reader's inner functions hand to each other: the head, the places of the lists, and what stands there. Definitions only. Assumes nothing.
 use mathlib.Core.Path.{_≡_}
 use Prim.Native.Nat.{ℕ, zero, suc, _+_, _*_, _^_, _≤_, _<_}
 use mathlib.Core.List.{List}
@@ -7,8 +7,9 @@ use lib.ListN.{length, getD, drop}
 use lib.Ieee.{binary32, binary64, ofBits}
 use Rattle.record.specs.declared.Numbered.the-variants.{Got}
 use Rattle.record.specs.Number.{number}
-use Rattle.record.specs.Layout.{Exposure}
-use Rattle.record.specs.Reading.{Values, values, fault, numbers, run, headBits, refused, whole, reading, place}
+use Rattle.record.specs.Head.{headSpots, headMatches, headDirections, headMirror, headScale, headRadius, headCut}
+use Rattle.record.specs.Head.{headLimit, headRounds, headRotation, headBits, place, exposure}
+use Rattle.record.specs.Reading.{Values, values, fault, numbers, run, refused, whole, reading}
 use Rattle.record.specs.Header.{rotationRow}
 use Rattle.record.specs.declared.Header.{Header}
 use Rattle.record.specs.declared.heads.Head.{Head}
@@ -29,7 +30,7 @@ answered (suc n) x = fault (suc n)
 abbrev pub Fit : List ℕ → List ℕ → Type 0
 Fit bits vs = (i : ℕ) → i < length bits → getD vs i 0 < 2 ^ getD bits i 0
 
--- What the first numbers come to: their refusal, or they and the place after them.
+-- What the head comes to: its refusal, or its numbers and the place after them.
 abbrev pub headOf : List ℕ → Head → Type 0
 headOf bytes r = numbers headBits bytes ≡ answered (r .refusal) (values (r .numbers) (drop (r .to) bytes))
 
@@ -37,20 +38,6 @@ headOf bytes r = numbers headBits bytes ≡ answered (r .refusal) (values (r .nu
 pub record Over (x : Values) (bytes : List ℕ) (r : Passed) : Type 0 where
   pub passed : List ℕ
   pub is : x ≡ answered (r .refusal) (values passed (drop (r .to) bytes))
-
--- What a record holds, by its first numbers and its three lists.
-abbrev pub exposure : List ℕ → List ℕ → List ℕ → List ℕ → Exposure
-exposure h spots matches directions = record {
-  mirror = place h 3;
-  scale = place h 4;
-  radius = place h 5;
-  limit = place h 6;
-  rounds = place h 7;
-  rotation = drop 8 h;
-  spots = spots;
-  matches = matches;
-  directions = directions;
-}
 
 -- A number that is known to stand at a place.
 pub record Lies (bytes : List ℕ) (at : ℕ) : Type 0 where
@@ -71,9 +58,9 @@ pub record Lawful (bytes : List ℕ) (r : Found) : Type 0 where
   pub matches : List ℕ
   pub directions : List ℕ
   pub fit : Fit headBits (r .numbers)
-  pub spotsAt : Standing (2 * place (r .numbers) 0) 64 bytes (r .spots) spots
-  pub matchesAt : Standing (2 * place (r .numbers) 1) 32 bytes (r .matches) matches
-  pub directionsAt : Standing (3 * place (r .numbers) 2) 32 bytes (r .directions) directions
+  pub spotsAt : Standing (2 * place (r .numbers) headSpots) 64 bytes (r .spots) spots
+  pub matchesAt : Standing (2 * place (r .numbers) headMatches) 32 bytes (r .matches) matches
+  pub directionsAt : Standing (3 * place (r .numbers) headDirections) 32 bytes (r .directions) directions
   pub is : reading bytes ≡ whole (exposure (r .numbers) spots matches directions)
 
 -- What the first pass hands on: the number of the refusal, or a lawful record's numbers and places.
@@ -81,19 +68,20 @@ pub record FoundIn (bytes : List ℕ) (r : Found) : Type 0 where
   pub refusal : 0 < r .refusal → reading bytes ≡ refused (r .refusal)
   pub lawful : r .refusal ≡ 0 → Lawful bytes r
 
--- What the first numbers say.
+-- What the head says.
 unfoldable pub headerFrom : List ℕ → Header
 headerFrom h = record {
   refusal = 0;
-  spots = place h 0;
-  matches = place h 1;
-  directions = place h 2;
-  mirror = eqb (place h 3) 1;
-  scale = ofBits binary64 (place h 4);
-  radius = ofBits binary32 (place h 5);
-  limit = place h 6;
-  rounds = place h 7;
-  rot0 = rotationRow (drop 8 h) 0 1 2;
-  rot1 = rotationRow (drop 8 h) 3 4 5;
-  rot2 = rotationRow (drop 8 h) 6 7 8;
+  spots = place h headSpots;
+  matches = place h headMatches;
+  directions = place h headDirections;
+  mirror = eqb (place h headMirror) 1;
+  scale = ofBits binary64 (place h headScale);
+  radius = ofBits binary32 (place h headRadius);
+  cut = ofBits binary64 (place h headCut);
+  limit = place h headLimit;
+  rounds = place h headRounds;
+  rot0 = rotationRow (drop headRotation h) 0 1 2;
+  rot1 = rotationRow (drop headRotation h) 3 4 5;
+  rot2 = rotationRow (drop headRotation h) 6 7 8;
 }

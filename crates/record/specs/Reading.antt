@@ -3,11 +3,12 @@ use Prim.Native.Nat.{ℕ, zero, suc, _*_}
 use mathlib.Core.Bool.{cond}
 use mathlib.Core.List.{List, [], _∷_}
 use lib.Dec.{ltb}
-use lib.ListN.{length, getD, drop, replicate}
+use lib.ListN.{length, drop}
 use Rattle.record.specs.declared.Numbered.{Numbered}
 use Rattle.record.specs.declared.Numbered.the-variants.{Got, Short, Wrong}
 use Rattle.record.specs.Number.{number}
 use Rattle.record.specs.Layout.{Exposure}
+use Rattle.record.specs.Head.{headSpots, headMatches, headDirections, headBits, place, exposure}
 
 -- Numbers and the bytes after them, or the refusal of the first fault.
 pub data Values : Type 0 where
@@ -39,18 +40,10 @@ run zero b bytes = values [] bytes
 run (suc k) b bytes =
     following bytes (number b bytes) (λ v rest. onward (run k b rest) (λ vs more. values (v ∷ vs) more))
 
--- The bits of the first seventeen numbers: three counts, mirror, scale, radius, limit, rounds, and the rotation.
-abbrev pub headBits : List ℕ
-headBits = 32 ∷ 32 ∷ 32 ∷ 1 ∷ 64 ∷ 32 ∷ 32 ∷ 32 ∷ replicate 9 32
-
 -- A record read: refused with a number, or what it holds.
 pub data Read : Type 0 where
   refused : ℕ → Read
   whole : Exposure → Read
-
--- A number of the head, by its place from 0.
-abbrev pub place : List ℕ → ℕ → ℕ
-place h i = getD h i 0
 
 -- 4: "Bytes follow the last number."
 unfoldable pub closed : Exposure → List ℕ → Read
@@ -66,20 +59,10 @@ then (fault n) f = refused n
 unfoldable pub body : List ℕ → List ℕ → Read
 unfolding run then closed
 body h bytes =
-    then (run (2 * place h 0) 64 bytes) (λ spots afterSpots.
-    then (run (2 * place h 1) 32 afterSpots) (λ matches afterMatches.
-    then (run (3 * place h 2) 32 afterMatches) (λ directions rest.
-    closed (record {
-      mirror = place h 3;
-      scale = place h 4;
-      radius = place h 5;
-      limit = place h 6;
-      rounds = place h 7;
-      rotation = drop 8 h;
-      spots = spots;
-      matches = matches;
-      directions = directions;
-    }) rest)))
+    then (run (2 * place h headSpots) 64 bytes) (λ spots afterSpots.
+    then (run (2 * place h headMatches) 32 afterSpots) (λ matches afterMatches.
+    then (run (3 * place h headDirections) 32 afterMatches) (λ directions rest.
+    closed (exposure h spots matches directions) rest)))
 
 -- 1: "The record is longer than 65,536 bytes."
 abbrev pub mostBytes : ℕ

@@ -4,6 +4,9 @@ ghost use lib.ListN.{drop};
 ghost use Prim.Native.Nat.{min};
 ghost use Rattle.record.specs.Number.{number};
 ghost use Rattle.record.specs.Header.{intake, readRecord};
+use crate::heads::DIRECTIONS;
+use crate::heads::MATCHES;
+use crate::heads::SPOTS;
 use crate::reports::accepted;
 use crate::reports::refused;
 use crate::runs::fill_doubles;
@@ -11,7 +14,7 @@ use crate::runs::fill_singles;
 use crate::runs::fill_wholes;
 use crate::whole::look_over;
 
-mod heads; // heads.rt: the first seventeen numbers
+mod heads; // heads.rt: the head, that is the numbers before the lists
 mod runs; // runs.rt: runs of numbers, gone over and written to lists
 mod numbers; // numbers.rt: one whole number
 mod reports; // reports.rt: the header that is handed back
@@ -33,6 +36,7 @@ pub struct Header {
     pub mirror: bool,
     pub scale: f64,
     pub radius: f32,
+    pub cut: f64,
     pub limit: usize,
     pub rounds: usize,
     pub rot0: [f32; 3],
@@ -62,9 +66,9 @@ pub fn read_record(
         return refused(f.refusal);
     }
     let numbers = f.numbers;
-    let n = 2 * numbers[0] as usize;
-    let m = 2 * numbers[1] as usize;
-    let d = 3 * numbers[2] as usize;
+    let n = 2 * numbers[SPOTS] as usize;
+    let m = 2 * numbers[MATCHES] as usize;
+    let d = 3 * numbers[DIRECTIONS] as usize;
     if spots.len() < n {
         return refused(11);
     }

@@ -1,12 +1,22 @@
 // What is handed back: the numbers of a record as it names them, or a refusal.
 ghost use mathlib.Core.Path.{_≡_};
-ghost use Prim.Native.Nat.{_^_, _<_};
-ghost use mathlib.Core.List.{[], _∷_};
+ghost use Prim.Native.Nat.{_+_, _^_, _≤_, _<_};
 ghost use lib.Ieee.{binary32, binary64, ofBits};
-ghost use Rattle.record.specs.Reading.{headBits};
-ghost use Rattle.record.specs.Header.{refusedHeader};
+ghost use Rattle.record.specs.Head.{headRotation, headSize, headBits};
+ghost use Rattle.record.specs.Header.{rotationRow, refusedHeader};
 ghost use Rattle.record.specs.Passes.{Fit, headerFrom};
 use crate::Header;
+use crate::heads::COUNT;
+use crate::heads::CUT;
+use crate::heads::DIRECTIONS;
+use crate::heads::LIMIT;
+use crate::heads::MATCHES;
+use crate::heads::MIRROR;
+use crate::heads::RADIUS;
+use crate::heads::ROTATION;
+use crate::heads::ROUNDS;
+use crate::heads::SCALE;
+use crate::heads::SPOTS;
 use rounding::canonical32;
 use rounding::canonical64;
 use rounding::from_bits32;
@@ -24,6 +34,7 @@ pub(crate) fn refused(refusal: usize) -> Header
         mirror: false,
         scale: 0.0,
         radius: 0.0,
+        cut: 0.0,
         limit: 0,
         rounds: 0,
         rot0: [0.0, 0.0, 0.0],
@@ -47,32 +58,33 @@ pub(crate) fn double(n: u64) -> f64
     canonical64(from_bits64(n))
 }
 
-// A row of the rotation.
-fn row(a: u64, b: u64, c: u64) -> [f32; 3]
-    requires { ⌜ (a < 2 ^ 32) × (b < 2 ^ 32) × (c < 2 ^ 32) ⌝ }
-    ensures { λ r. ⌜ r ≡ ofBits binary32 a ∷ ofBits binary32 b ∷ ofBits binary32 c ∷ [] ⌝ }
+// A row of the rotation, whose first entry is at this place of a head whose numbers are known to fit.
+fn row(h: &[u64; COUNT], at: usize) -> [f32; 3]
+    requires { ⌜ Fit headBits (now h) × (headRotation ≤ at) × (at + 2 < headSize) ⌝ }
+    ensures { λ r. ⌜ r ≡ rotationRow (now (h .entry)) at (at + 1) (at + 2) ⌝ }
 {
-    [single(a), single(b), single(c)]
+    [single(h[at]), single(h[at + 1]), single(h[at + 2])]
 }
 
-// The header of a record whose first numbers are known to fit.
-pub(crate) fn accepted(h: &[u64; 17]) -> Header
+// The header of a record by its head, whose numbers are known to fit.
+pub(crate) fn accepted(h: &[u64; COUNT]) -> Header
     requires { ⌜ Fit headBits (now h) ⌝ }
     ensures { λ r. ⌜ r ≡ headerFrom (now (h .entry)) ⌝ }
 {
-    let rot0 = row(h[8], h[9], h[10]);
-    let rot1 = row(h[11], h[12], h[13]);
-    let rot2 = row(h[14], h[15], h[16]);
+    let rot0 = row(h, ROTATION);
+    let rot1 = row(h, ROTATION + 3);
+    let rot2 = row(h, ROTATION + 6);
     Header {
         refusal: 0,
-        spots: h[0] as usize,
-        matches: h[1] as usize,
-        directions: h[2] as usize,
-        mirror: h[3] == 1,
-        scale: double(h[4]),
-        radius: single(h[5]),
-        limit: h[6] as usize,
-        rounds: h[7] as usize,
+        spots: h[SPOTS] as usize,
+        matches: h[MATCHES] as usize,
+        directions: h[DIRECTIONS] as usize,
+        mirror: h[MIRROR] == 1,
+        scale: double(h[SCALE]),
+        radius: single(h[RADIUS]),
+        cut: double(h[CUT]),
+        limit: h[LIMIT] as usize,
+        rounds: h[ROUNDS] as usize,
         rot0,
         rot1,
         rot2,

@@ -1,6 +1,10 @@
 // The first pass over a record, which writes nothing: is it lawful, and where are its lists?
 ghost use mathlib.Core.Path.{_≡_};
 ghost use Rattle.record.specs.Passes.{FoundIn};
+use crate::heads::COUNT;
+use crate::heads::DIRECTIONS;
+use crate::heads::MATCHES;
+use crate::heads::SPOTS;
 use crate::heads::read_head;
 use crate::numbers::TOP_32;
 use crate::numbers::TOP_64;
@@ -8,10 +12,10 @@ use crate::runs::skip;
 
 const MOST_BYTES: usize = 65536;
 
-// The first numbers and the places where spots, matches and directions start, or a refusal.
+// The head and the places where spots, matches and directions start, or a refusal.
 pub(crate) struct Found {
     pub refusal: usize,
-    pub numbers: [u64; 17],
+    pub numbers: [u64; COUNT],
     pub spots: usize,
     pub matches: usize,
     pub directions: usize,
@@ -23,7 +27,7 @@ fn stopped(refusal: usize) -> Found
 {
     Found {
         refusal,
-        numbers: [0u64; 17],
+        numbers: [0u64; COUNT],
         spots: 0,
         matches: 0,
         directions: 0,
@@ -43,15 +47,15 @@ pub(crate) fn look_over(bytes: &[u8]) -> Found
     }
     let numbers = h.numbers;
     let spots = h.to;
-    let s = skip(bytes, spots, 2 * numbers[0] as usize, TOP_64);
+    let s = skip(bytes, spots, 2 * numbers[SPOTS] as usize, TOP_64);
     if s.refusal != 0 {
         return stopped(s.refusal);
     }
-    let m = skip(bytes, s.to, 2 * numbers[1] as usize, TOP_32);
+    let m = skip(bytes, s.to, 2 * numbers[MATCHES] as usize, TOP_32);
     if m.refusal != 0 {
         return stopped(m.refusal);
     }
-    let d = skip(bytes, m.to, 3 * numbers[2] as usize, TOP_32);
+    let d = skip(bytes, m.to, 3 * numbers[DIRECTIONS] as usize, TOP_32);
     if d.refusal != 0 {
         return stopped(d.refusal);
     }

@@ -32,7 +32,7 @@ front k l {n} e =
 
 -- The call on the fronts is the one that the header asks for.
 abbrev with-header : Header → Lent → List Float → List ℕ → List Float → Call
-with-header h lent ss ms ds = called ss ms ds (h .rot0 ∷ h .rot1 ∷ h .rot2 ∷ []) (h .scale) (h .mirror) (h .radius) (h .limit) (h .rounds) lent
+with-header h lent ss ms ds = called ss ms ds (h .rot0 ∷ h .rot1 ∷ h .rot2 ∷ []) (h .scale) (h .mirror) (h .radius) (h .cut) (h .limit) (h .rounds) lent
 
 pub on-fronts : (h : Header) (ss : List Float) (ms : List ℕ) (ds : List Float) (lent : Lent) {s m d : ℕ} {r : WcsRefineResult} {after : Lent}
     → s ≡ min (2 * h .spots) (length ss) → m ≡ min (2 * h .matches) (length ms) → d ≡ min (3 * h .directions) (length ds)

@@ -9,7 +9,7 @@ use lib.ListN.{length, take, replicate, length-take, length-replicate}
 use lib.Ieee.{Float, binary32, ofBits}
 use Rattle.rounding.specs.Arith.{zero64}
 use Rattle.entry.specs.Arguments.{Lent, workFor, resultFor}
-use Rattle.entry.specs.Check.{divides, few, scaleFits, radiusFits, numbersFit, named, long, countsRefused, measuresRefused, numbersRefused, namesRefused, orElse, refusalOf, refusal}
+use Rattle.entry.specs.Check.{divides, few, scaleFits, radiusFits, cutFits, numbersFit, named, long, countsRefused, measuresRefused, numbersRefused, namesRefused, orElse, refusalOf, refusal}
 use Rattle.printing.specs.Text.{setFrom}
 use Rattle.response.specs.Response.{asked, responseTo}
 use Rattle.response.specs.Printed.{Printed}
@@ -46,10 +46,12 @@ unfolding countsRefused
 counts-never s m d rounds =
     of-cond (divides s m d) (of-cond (few (s / 2) (m / 2) (d / 3) rounds) (λ e. omega arith) (λ e. omega arith)) (λ e. omega arith)
 
-measures-never : (scale radius : Float) → measuresRefused scale radius ≡ 11 → ⊥
+measures-never : (scale radius cut : Float) → measuresRefused scale radius cut ≡ 11 → ⊥
 unfolding measuresRefused
-measures-never scale radius =
-    of-cond (scaleFits scale) (of-cond (radiusFits radius) (λ e. omega arith) (λ e. omega arith)) (λ e. omega arith)
+measures-never scale radius cut =
+    of-cond (scaleFits scale)
+    (of-cond (radiusFits radius) (of-cond (cutFits cut) (λ e. omega arith) (λ e. omega arith)) (λ e. omega arith))
+    (λ e. omega arith)
 
 numbers-never : (ss ds : List Float) (rows : List (List Float)) → numbersRefused ss ds rows ≡ 11 → ⊥
 unfolding numbersRefused
@@ -76,15 +78,15 @@ names-never ms s d limit numbers floats result h =
     all-there false k e = let z : _≡_ {A = ℕ} 0 1 = cc in omega arith
 
 -- Of the four stages only the last gives 11, and not where the lists are long enough.
-roomy-never : (ss : List Float) (ms : List ℕ) (ds : List Float) (rows : List (List Float)) (scale radius : Float) (limit rounds numbers floats result : ℕ)
+roomy-never : (ss : List Float) (ms : List ℕ) (ds : List Float) (rows : List (List Float)) (scale radius cut : Float) (limit rounds numbers floats result : ℕ)
     → long (length ss / 2) (length ms / 2) (length ds / 3) limit numbers floats result ≡ true
-    → refusalOf ss ms ds rows scale radius limit rounds numbers floats result ≡ 11 → ⊥
+    → refusalOf ss ms ds rows scale radius cut limit rounds numbers floats result ≡ 11 → ⊥
 unfolding refusalOf
-roomy-never ss ms ds rows scale radius limit rounds numbers floats result h =
+roomy-never ss ms ds rows scale radius cut limit rounds numbers floats result h =
     let names = namesRefused ms (length ss / 2) (length ds / 3) limit numbers floats result in
-    of-stages (countsRefused (length ss) (length ms) (length ds) rounds) (orElse (measuresRefused scale radius) (orElse (numbersRefused ss ds rows) names))
+    of-stages (countsRefused (length ss) (length ms) (length ds) rounds) (orElse (measuresRefused scale radius cut) (orElse (numbersRefused ss ds rows) names))
     (counts-never (length ss) (length ms) (length ds) rounds)
-    (of-stages (measuresRefused scale radius) (orElse (numbersRefused ss ds rows) names) (measures-never scale radius)
+    (of-stages (measuresRefused scale radius cut) (orElse (numbersRefused ss ds rows) names) (measures-never scale radius cut)
     (of-stages (numbersRefused ss ds rows) names (numbers-never ss ds rows)
     (names-never ms (length ss / 2) (length ds / 3) limit numbers floats result h)))
 
@@ -101,5 +103,5 @@ never-short i es em ed =
     let m : length (c .given .matches) / 2 ≤ heldMatches = omega (arith, length-take (2 * i .header .matches) (i .matches)) in
     let d : length (c .directions) / 3 ≤ heldDirections = omega (arith, length-take (3 * i .header .directions) (i .directions)) in
     let l = c .given .lent in
-    roomy-never (c .spots) (c .given .matches) (c .directions) (c .given .rotation) (c .given .scale) (c .given .radius) (c .given .limit) (c .given .rounds) (length (l .numbers)) (length (l .floats)) (length (l .result))
+    roomy-never (c .spots) (c .given .matches) (c .directions) (c .given .rotation) (c .given .scale) (c .given .radius) (c .given .cut) (c .given .limit) (c .given .rounds) (length (l .numbers)) (length (l .floats)) (length (l .result))
     (roomy (length (c .spots) / 2) (length (c .given .matches) / 2) (length (c .directions) / 3) (c .given .limit) (length (l .numbers)) (length (l .floats)) (length (l .result)) s m d (held-lengths .0) (held-lengths .1) (held-lengths .2))

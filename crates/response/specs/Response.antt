@@ -33,6 +33,7 @@ asked i lent =
     (i .header .scale)
     (i .header .mirror)
     (i .header .radius)
+    (i .header .cut)
     (i .header .limit)
     (i .header .rounds)
     lent

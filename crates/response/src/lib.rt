@@ -55,7 +55,7 @@ fn called_with(
 ) -> WcsRefineResult
     ensures { λ r. ⌜ Answers
         (called (now (spots .entry)) (now (matches .entry)) (now (directions .entry)) (h .rot0 ∷ h .rot1 ∷ h .rot2 ∷ [])
-        (h .scale) (h .mirror) (h .radius) (h .limit) (h .rounds)
+        (h .scale) (h .mirror) (h .radius) (h .cut) (h .limit) (h .rounds)
         (lists (now (numbers .entry)) (now (floats .entry)) (now (distances .entry))
         (now (indices .entry)) (now (result .entry))))
         r
@@ -73,6 +73,7 @@ fn called_with(
         h.scale,
         h.mirror,
         h.radius,
+        h.cut,
         h.limit,
         h.rounds,
         numbers,

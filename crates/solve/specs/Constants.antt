@@ -2,7 +2,7 @@
 use lib.Ieee.{Float}
 use Rattle.rounding.specs.Arith.{f64}
 
--- 1e-12: a direction whose denominator is at most this lies on or behind the projection plane ("the plane cut")
+-- 1e-12: 01's plane cut, which `tan_project` keeps. In a run the cut is a number of the call (02, CR 2).
 abbrev pub planeCut : Float
 planeCut = f64 0x3D719799812DEA11
 

@@ -1,4 +1,5 @@
 // Both sides of every bound of the checks on entry. A trial tells the number of its refusal, or 0.
+use crate::LEAST_CUT;
 use crate::tell::number;
 use lists::smaller;
 use rounding::from_bits32;
@@ -9,6 +10,7 @@ use wcs_refine::wcs_refine;
 struct Choices {
     pub scale: f64,
     pub radius: f32,
+    pub cut: f64,
     pub limit: usize,
     pub rounds: usize,
     pub numbers: usize,
@@ -21,6 +23,7 @@ fn lawful() -> Choices {
     Choices {
         scale: 0.0009765625,
         radius: 0.0078125,
+        cut: LEAST_CUT,
         limit: 1,
         rounds: 1,
         numbers: 64,
@@ -56,6 +59,7 @@ fn tried(
         c.scale,
         false,
         c.radius,
+        c.cut,
         c.limit,
         c.rounds,
         &mut numbers[0..n],
@@ -139,6 +143,7 @@ fn spoiled() -> Choices {
     Choices {
         scale: 0.0,
         radius: 0.0078125,
+        cut: LEAST_CUT,
         limit: 1,
         rounds: 64,
         numbers: 0,
@@ -236,6 +241,7 @@ fn rounds(name: &[u8], n: usize) {
         Choices {
             scale: 0.0009765625,
             radius: 0.0078125,
+            cut: LEAST_CUT,
             limit: 1,
             rounds: n,
             numbers: 64,
@@ -251,6 +257,7 @@ fn scaled(name: &[u8], bits: u64) {
         Choices {
             scale: from_bits64(bits),
             radius: 0.0078125,
+            cut: LEAST_CUT,
             limit: 1,
             rounds: 1,
             numbers: 64,
@@ -276,6 +283,7 @@ fn reached(name: &[u8], bits: u32) {
         Choices {
             scale: 0.0009765625,
             radius: from_bits32(bits),
+            cut: LEAST_CUT,
             limit: 1,
             rounds: 1,
             numbers: 64,
@@ -334,6 +342,7 @@ fn lent(name: &[u8], limit: usize, numbers: usize, floats: usize, result: usize)
         Choices {
             scale: 0.0009765625,
             radius: 0.0078125,
+            cut: LEAST_CUT,
             limit,
             rounds: 1,
             numbers,

@@ -1,4 +1,5 @@
 // Both sides of the bounds that a run meets, refusals 12 and 13. A trial tells the number of its refusal, or 0.
+use crate::LEAST_CUT;
 use crate::tell::number;
 use lists::smaller;
 use rounding::from_bits64;
@@ -25,6 +26,7 @@ fn turned(name: &[u8], unit: f64, y: f64, z: f32) {
         0.0009765625,
         false,
         0.0078125,
+        LEAST_CUT,
         1,
         1,
         &mut numbers,
@@ -63,6 +65,7 @@ fn paired(name: &[u8], distances: usize, indices: usize) {
         0.0009765625,
         false,
         0.0078125,
+        LEAST_CUT,
         2,
         1,
         &mut numbers,

@@ -1,5 +1,6 @@
 // Two calls that differ in a few places. Where every premise of the theorem about two calls holds, they answer alike; for each premise there
 // are two calls that break just that one, and they do not.
+use crate::LEAST_CUT;
 use crate::tell::say;
 use rounding::from_bits64;
 use rounding::to_bits64;
@@ -7,7 +8,7 @@ use wcs_refine::WcsRefineResult;
 use wcs_refine::wcs_refine;
 
 // What varies between the calls: spot 4 and spot 5, which are beyond the limit of 4; the first component but one of direction 0; direction 4;
-// the starting matches; the limit; the radius; how many directions there are; and what the result list holds before.
+// the starting matches; the limit; the radius; the plane cut; how many directions there are; and what the result list holds before.
 struct Varied {
     pub spot4: [f64; 2],
     pub spot5: [f64; 2],
@@ -16,6 +17,7 @@ struct Varied {
     pub named: usize,
     pub limit: usize,
     pub radius: f32,
+    pub cut: f64,
     pub directions: usize,
     pub before: usize,
 }
@@ -41,6 +43,7 @@ fn refined(v: Varied, matches: &[usize], spots: &[f64], directions: &[f32]) -> E
         0.0009765625,
         false,
         v.radius,
+        v.cut,
         v.limit,
         3,
         &mut numbers,
@@ -119,6 +122,7 @@ fn base() -> Varied {
         named: 0,
         limit: 4,
         radius: 0.001,
+        cut: LEAST_CUT,
         directions: 5,
         before: 9,
     }
@@ -172,6 +176,7 @@ fn spot5(v: Varied, x: f64, y: f64) -> Varied {
         named: v.named,
         limit: v.limit,
         radius: v.radius,
+        cut: v.cut,
         directions: v.directions,
         before: v.before,
     }
@@ -188,6 +193,7 @@ fn direction4(v: Varied, x: f32, y: f32) -> Varied {
         named: v.named,
         limit: v.limit,
         radius: v.radius,
+        cut: v.cut,
         directions: v.directions,
         before: v.before,
     }
@@ -207,6 +213,7 @@ fn chosen(named: usize, limit: usize, radius: f32, directions: usize, before: us
         named,
         limit,
         radius,
+        cut: v.cut,
         directions,
         before,
     }
@@ -224,6 +231,26 @@ fn near(x: f32, spot4: [f64; 2]) -> Varied {
         named: v.named,
         limit: v.limit,
         radius: v.radius,
+        cut: v.cut,
+        directions: v.directions,
+        before: v.before,
+    }
+}
+
+// The same call with another plane cut.
+fn cut(v: Varied, x: f64) -> Varied {
+    let spot4 = v.spot4;
+    let spot5 = v.spot5;
+    let direction4 = v.direction4;
+    Varied {
+        spot4,
+        spot5,
+        near: v.near,
+        direction4,
+        named: v.named,
+        limit: v.limit,
+        radius: v.radius,
+        cut: x,
         directions: v.directions,
         before: v.before,
     }
@@ -277,6 +304,9 @@ fn others(v: Varied) {
     let n = chosen(1, 4, 0.001, 5, 9);
     compare(b"another count of directions", n, chosen(1, 4, 0.001, 6, 9));
     compare(b"another radius", v, chosen(0, 4, 0.0005, 5, 9));
+    // The direction that a starting match names has the denominator 0.5, so the greater cut drops it.
+    let grazing = direction4(n, 0.5, 0.25);
+    compare(b"another cut", grazing, cut(grazing, 0.5));
     compare(
         b"other contents of the result list",
         v,

@@ -1,4 +1,5 @@
-// The functions of the crate `fit` over lists, by name. The numbers are a pose, then spots, matches and directions, each after its count.
+// The functions of the crate `fit` over lists, by name. The numbers are a pose and the plane cut, then spots, matches and directions, each after its
+// count.
 use crate::list::count_at;
 use crate::list::floats;
 use crate::list::singles;
@@ -22,15 +23,15 @@ pub(crate) fn answer(name: &[u8], a: &[usize], e: &[usize]) -> usize {
 
 // The lists of a line. The matches are numbers, as they stand there.
 fn exposure(k: usize, a: &[usize], e: &[usize]) -> usize {
-    let s = 2 * count_at(a, 4);
-    let from = 6 + s;
-    let to = from + 2 * count_at(a, 5 + s);
+    let s = 2 * count_at(a, 5);
+    let from = 7 + s;
+    let to = from + 2 * count_at(a, 6 + s);
     if a.len() < to {
         return NEVER;
     }
     let d = 3 * count_at(a, to);
     let mut spots = [0.0f64; 64];
-    floats(a, 5, 1, &mut spots);
+    floats(a, 6, 1, &mut spots);
     let mut directions = [0.0f32; 96];
     singles(a, to + 1, &mut directions);
     called(
@@ -39,6 +40,7 @@ fn exposure(k: usize, a: &[usize], e: &[usize]) -> usize {
         &directions[0..d],
         &spots[0..s],
         pose_at(a),
+        f64_at(a, 4),
         e,
     )
 }
@@ -58,18 +60,13 @@ fn called(
     directions: &[f32],
     spots: &[f64],
     pose: Pose,
+    cut: f64,
     e: &[usize],
 ) -> usize {
     match k {
-        0 => same_solution(
-            e,
-            fit::ls_fit_once(matches, directions, spots, pose, project::PLANE_CUT),
-        ),
-        1 => same_counted(
-            e,
-            fit::normal_matrix(matches, directions, spots, pose, project::PLANE_CUT),
-        ),
-        _ => compute_residuals(matches, directions, spots, pose, e),
+        0 => same_solution(e, fit::ls_fit_once(matches, directions, spots, pose, cut)),
+        1 => same_counted(e, fit::normal_matrix(matches, directions, spots, pose, cut)),
+        _ => compute_residuals(matches, directions, spots, pose, cut, e),
     }
 }
 
@@ -84,17 +81,11 @@ fn compute_residuals(
     directions: &[f32],
     spots: &[f64],
     pose: Pose,
+    cut: f64,
     e: &[usize],
 ) -> usize {
     let mut residuals = [residuals::NO_RESIDUAL; 32];
-    let n = residuals::compute_residuals(
-        matches,
-        directions,
-        spots,
-        pose,
-        project::PLANE_CUT,
-        &mut residuals,
-    );
+    let n = residuals::compute_residuals(matches, directions, spots, pose, cut, &mut residuals);
     same_residuals(e, same(e, 0, n), &residuals)
 }
 

@@ -3,6 +3,7 @@ use crate::list::doubles;
 use crate::matrices::matrix_of;
 use crate::word::NEVER;
 use crate::word::f32_at;
+use crate::word::f64_at;
 use crate::word::place;
 use crate::word::same;
 use crate::word::same_pair;
@@ -24,10 +25,10 @@ pub(crate) fn answer(name: &[u8], a: &[usize], e: &[usize]) -> usize {
     }
 }
 
-// A direction, and then the basis.
+// A direction, then the basis, then the plane cut.
 fn vec_projected(a: &[usize]) -> Projected {
     let v = [f32_at(a, 0), f32_at(a, 1), f32_at(a, 2)];
-    project::tan_project_vec(v, matrix_of(doubles(a, 3)), project::PLANE_CUT)
+    project::tan_project_vec(v, matrix_of(doubles(a, 3)), f64_at(a, 12))
 }
 
 // An option: 1 and its values, or 0.

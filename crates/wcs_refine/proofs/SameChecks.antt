@@ -1,4 +1,4 @@
--- Two calls that are alike in all but unseen spots and directions meet the same refusal of 5 to 11, or none; and what no refusal says of a call. Assumes nothing.
+-- Two calls that are alike in all but unseen spots and directions meet the same refusal on entry, or none; and what no refusal says of a call. Assumes nothing.
 use mathlib.Core.Path.{_≡_, refl, sym, ap, _∙_, subst}
 use Prim.Native.Nat.{ℕ, zero, suc, _+_, _*_, _/_, _%_, _<_}
 use native.Mathlib.Omega.{arith}
@@ -129,7 +129,7 @@ module _ (g : Given) (sa sb da db : List Float) (ls : length sa ≡ length sb) (
   -- after the counts, the lawfulness of the numbers and again the lengths decide
   abbrev later : ℕ → ℕ → ℕ → ℕ
   later numbers s d =
-      orElse (measuresRefused (g .scale) (g .radius))
+      orElse (measuresRefused (g .scale) (g .radius) (g .cut))
       (orElse numbers (namesRefused (g .matches) (s / 2) (d / 3) (g .limit) (length (g .lent .numbers)) (length (g .lent .floats)) (length (g .lent .result))))
 
   pub refusal-same : refusal a ≡ refusal b

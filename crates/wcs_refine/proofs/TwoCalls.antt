@@ -97,7 +97,7 @@ module _ (g : Given) (sa sb da db : List Float) (ls : length sa ≡ length sb) (
       limit = g .limit;
       count = ld i / 3;
       capacity = fixed a .capacity;
-      cut = fixed a .cut;
+      cut = g .cut;
       far = far-same i;
     }
 

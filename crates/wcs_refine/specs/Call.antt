@@ -55,7 +55,7 @@ abbrev pub answerAfter : Call → ℕ → Answer
 answerAfter c zero = finished c (runOf c .ending) (runOf c)
 answerAfter c (suc n) = no (suc n)
 
--- The answer of a whole call: the first of refusals 5 to 11 that holds, or else what the run comes to.
+-- The answer of a whole call: the refusal of the first check on entry that fails, or else what the run comes to.
 unfoldable pub answer : Call → Answer
 unfolding runOf refusal finished
 answer c = answerAfter c (refusal c)
@@ -73,7 +73,7 @@ cleared result l = record {
 }
 
 -- By the check that refused on entry, or 0 where none did: "1 to 11 leave all lent lists as they came. 12 and 13 leave the result list as it came
--- and the working and candidate lists all zero."
+-- and the working and candidate lists all zero." 02, CR 2: 14 is "counted with 5 to 11 wherever those are named".
 -- "Accepted: the result list starts with the matches, spot then direction, and is unchanged after them; working and candidate lists are all zero."
 unfoldable pub left : Lent → ℕ → Answer → Lent
 unfolding cleared

@@ -77,8 +77,9 @@ lists numbers floats distances indices result = record {
   result = result;
 }
 
-abbrev pub called : List Float → List ℕ → List Float → List (List Float) → Float → Bool → Float → ℕ → ℕ → Lent → Call
-called spots matches directions rotation scale mirror radius limit rounds lent = record {
+abbrev pub called :
+    List Float → List ℕ → List Float → List (List Float) → Float → Bool → Float → Float → ℕ → ℕ → Lent → Call
+called spots matches directions rotation scale mirror radius cut limit rounds lent = record {
   spots = spots;
   directions = directions;
   given = record {
@@ -87,6 +88,7 @@ called spots matches directions rotation scale mirror radius limit rounds lent =
     scale = scale;
     mirror = mirror;
     radius = radius;
+    cut = cut;
     limit = limit;
     rounds = rounds;
     lent = lent;

@@ -49,6 +49,7 @@ fn refined(
     scale: f64,
     mirror: bool,
     radius: f32,
+    cut: f64,
     limit: usize,
     rounds: usize,
     numbers: &mut [usize],
@@ -57,13 +58,13 @@ fn refined(
     indices: &mut [usize],
     result: &mut [usize],
 ) -> WcsRefineResult
-    requires { ⌜ refusal (called (now spots) (now matches) (now directions) rotation scale mirror radius limit rounds
+    requires { ⌜ refusal (called (now spots) (now matches) (now directions) rotation scale mirror radius cut limit rounds
         (lists (now numbers) (now floats) (now distances) (now indices) (now result))) ≡ 0 ⌝ }
     ensures { λ r.
         ⌜ Answered
         (answer
         (called (now (spots .entry)) (now (matches .entry)) (now (directions .entry)) rotation scale mirror radius
-        limit rounds
+        cut limit rounds
         (lists (now (numbers .entry)) (now (floats .entry)) (now (distances .entry)) (now (indices .entry))
         (now (result .entry)))))
         (now (result .entry)) (now (result .exit)) r ⌝ }
@@ -75,6 +76,7 @@ fn refined(
         scale,
         mirror,
         radius,
+        cut,
         limit,
         distances.len(),
         indices.len(),
@@ -99,7 +101,8 @@ fn refined(
 }
 
 // Refines the pose of a rotation from spots (flat, x then y), directions (flat, three components) and starting matches (flat, spot then
-// direction). `numbers` and `floats` are working lists, `distances` and `indices` room for candidate pairs; the matches go to `result`.
+// direction). A direction whose denominator is at most `cut` is dropped, everywhere in the run. `numbers` and `floats` are working lists,
+// `distances` and `indices` room for candidate pairs; the matches go to `result`.
 pub fn wcs_refine(
     spots: &[f64],
     matches: &[usize],
@@ -108,6 +111,7 @@ pub fn wcs_refine(
     scale: f64,
     mirror: bool,
     radius: f32,
+    cut: f64,
     limit: usize,
     rounds: usize,
     numbers: &mut [usize],
@@ -119,7 +123,7 @@ pub fn wcs_refine(
     ensures { λ r.
         ⌜ Answers
         (called (now (spots .entry)) (now (matches .entry)) (now (directions .entry)) rotation scale mirror radius
-        limit rounds
+        cut limit rounds
         (lists (now (numbers .entry)) (now (floats .entry)) (now (distances .entry)) (now (indices .entry))
         (now (result .entry))))
         r
@@ -133,6 +137,7 @@ pub fn wcs_refine(
         rotation,
         scale,
         radius,
+        cut,
         limit,
         rounds,
         numbers.len(),
@@ -150,6 +155,7 @@ pub fn wcs_refine(
         scale,
         mirror,
         radius,
+        cut,
         limit,
         rounds,
         numbers,

@@ -8,10 +8,10 @@ use std::process::{exit, Child, Command, Stdio};
 
 use coverage::Coverage;
 use exposures::record;
-use reference::answer::{lines, of_record};
-use reference::call::{refine, Answer, Lent};
+use reference::answer::{lines, of_record, PROGRAM};
+use reference::call::{refine, Answer, Lent, LEAST_CUT};
 use reference::hooks;
-use reference::record::read_any;
+use reference::record::{read_any, Exposure};
 use reference::solver::profiling;
 
 const USAGE: &str = "\
@@ -119,20 +119,33 @@ fn case(o: &Options, item: u64, coverage: &mut Coverage) -> Case {
     profiling::reset();
     let answer = oracle(o, &bytes);
     coverage.add(kind, &answer, profiling::counts()[0], &hooks::trace());
-    Case { item, kind, bytes, expected: lines(&answer) }
+    let expected = lines(&answer);
+    if let Some(said) = with_least_cut(o, &bytes, &answer) {
+        coverage.cut(kind, said != expected);
+    }
+    Case { item, kind, bytes, expected }
+}
+
+/// What a run with a larger cut would answer with the least.
+fn with_least_cut(o: &Options, bytes: &[u8], answer: &Result<Answer, u8>) -> Option<String> {
+    let ran = matches!(answer, Ok(_) | Err(12 | 13));
+    let e = read_any(bytes).ok().filter(|e| ran && e.cut != LEAST_CUT)?;
+    Some(lines(&refine(&Exposure { cut: LEAST_CUT, ..e }, &lent(o), false)))
 }
 
 fn oracle(o: &Options, bytes: &[u8]) -> Result<Answer, u8> {
     match o.pairs {
         None => of_record(bytes, true),
-        Some(pairs) => {
-            let all = usize::MAX;
-            let (distances, indices) = (2 * pairs, 4 * pairs);
-            let lent =
-                Lent { wholes: all, floats: all, result: all, distances, indices, cells: None };
-            refine(&read_any(bytes)?, &lent, true)
-        }
+        Some(_) => refine(&read_any(bytes)?, &lent(o), true),
     }
+}
+
+/// The program's lists, or those of calls at full limits.
+fn lent(o: &Options) -> Lent {
+    let Some(pairs) = o.pairs else { return PROGRAM };
+    let all = usize::MAX;
+    let (distances, indices) = (2 * pairs, 4 * pairs);
+    Lent { wholes: all, floats: all, result: all, distances, indices, cells: None }
 }
 
 fn compare(o: &Options, cases: &[Case], differences: &mut Differences) {

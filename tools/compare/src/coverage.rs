@@ -47,6 +47,9 @@ pub struct Coverage {
     queries: Histogram,
     matches: Histogram,
     steps: BTreeMap<&'static str, u64>,
+    /// By kind: the runs whose cut is not the least, and those of them that
+    /// the least would answer otherwise.
+    cuts: BTreeMap<&'static str, [u64; 2]>,
 }
 
 impl Coverage {
@@ -59,7 +62,15 @@ impl Coverage {
             queries: Histogram::new(&[0, 1, 2, 3, 4, 8, 16]),
             matches: Histogram::new(&[0, 2, 3, 5, 8, 16, 32, 63]),
             steps: BTreeMap::new(),
+            cuts: BTreeMap::new(),
         }
+    }
+
+    /// A run with a larger cut than the least, and whether that tells.
+    pub fn cut(&mut self, kind: &'static str, tells: bool) {
+        let [runs, told] = self.cuts.entry(kind).or_default();
+        *runs += 1;
+        *told += tells as u64;
     }
 
     /// Accepted answers count under 0. `rounds` are those begun, also by a
@@ -150,6 +161,10 @@ impl Display for Coverage {
         writeln!(f, "steps")?;
         for (step, count) in &self.steps {
             writeln!(f, "  {step}: {count}")?;
+        }
+        writeln!(f, "runs with a larger cut than 1e-12, and those that 1e-12 would answer otherwise")?;
+        for (kind, [runs, told]) in &self.cuts {
+            writeln!(f, "  {kind:<10} {runs}  {told}")?;
         }
         Ok(())
     }

@@ -5,6 +5,7 @@ pub struct Exposure {
     pub mirror: bool,
     pub scale: f64,
     pub radius: f32,
+    pub cut: f64,
     pub limit: u32,
     pub rounds: u32,
     pub rotation: [f32; 9],
@@ -21,6 +22,7 @@ impl Exposure {
         numbers.push(self.mirror as u64);
         numbers.push(self.scale.to_bits());
         numbers.push(self.radius.to_bits() as u64);
+        numbers.push(self.cut.to_bits());
         numbers.push(self.limit as u64);
         numbers.push(self.rounds as u64);
         numbers.extend(self.rotation.iter().map(|x| x.to_bits() as u64));

@@ -1,8 +1,9 @@
 //! Kinds that stand on both sides of a bound, or break the record itself.
 
+use crate::cuts;
 use crate::exposure::{encoded, push, Exposure};
 use crate::field::{Plan, DIRECTIONS, MATCHES, SPOTS};
-use crate::rng::Rng;
+use crate::rng::{beside32, beside64, Rng};
 use crate::runs::{field, wild};
 
 /// A small exposure that no check refuses.
@@ -15,15 +16,6 @@ fn lawful(r: &mut Rng) -> Exposure {
     p.matches = p.pairs;
     p.rounds = 3;
     p.take(r)
-}
-
-/// Bits of an f64 one step above (1) or below (−1) in size.
-fn beside64(x: f64, steps: i64) -> f64 {
-    f64::from_bits((x.to_bits() as i64 + steps) as u64)
-}
-
-fn beside32(x: f32, steps: i32) -> f32 {
-    f32::from_bits((x.to_bits() as i32 + steps) as u32)
 }
 
 /// A bound, a step inside it, a step outside it, or a value far away.
@@ -43,7 +35,7 @@ fn about32(r: &mut Rng, bound: f32) -> f32 {
     }
 }
 
-/// Moves one value of the exposure to a bound of refusals 6 to 10.
+/// Moves one value of the exposure, not its cut, to a bound of refusals 6 to 10.
 fn to_bound(r: &mut Rng, e: &mut Exposure) {
     let least = 1.0 / (1u64 << 30) as f64;
     match r.below(7) {
@@ -73,16 +65,27 @@ fn to_bound(r: &mut Rng, e: &mut Exposure) {
     }
 }
 
+/// A cut on either side of a bound of refusal 14.
+fn cut_at_bound(c: &mut Rng) -> f64 {
+    let bound = c.pick(&[cuts::LEAST, cuts::GREATEST]);
+    about64(c, bound)
+}
+
 /// One value at a bound.
-pub fn bounds(r: &mut Rng) -> Exposure {
-    let mut e = lawful(r);
-    to_bound(r, &mut e);
+pub fn bounds(r: &mut Rng, c: &mut Rng) -> Exposure {
+    let mut e = Exposure { cut: cuts::drawn(c), ..lawful(r) };
+    if c.once_in(6) {
+        e.cut = cut_at_bound(c);
+    } else {
+        to_bound(r, &mut e);
+    }
     e
 }
 
 /// Several values at bounds: the first refusal counts.
-pub fn several(r: &mut Rng) -> Exposure {
+pub fn several(r: &mut Rng, c: &mut Rng) -> Exposure {
     let mut e = lawful(r);
+    e.cut = if c.once_in(2) { cut_at_bound(c) } else { cuts::drawn(c) };
     for _ in 0..r.whole(2, 6) {
         to_bound(r, &mut e);
     }
@@ -116,8 +119,9 @@ pub fn holding(r: &mut Rng) -> Exposure {
 }
 
 /// A record whose bytes are spoiled.
-pub fn damaged(r: &mut Rng) -> Vec<u8> {
-    let e = if r.once_in(2) { lawful(r) } else { field(r) };
+pub fn damaged(r: &mut Rng, c: &mut Rng) -> Vec<u8> {
+    let taken = if r.once_in(2) { lawful(r) } else { field(r) };
+    let e = Exposure { cut: cuts::drawn(c), ..taken };
     let mut bytes = e.bytes();
     match r.below(8) {
         0 => bytes.truncate(r.below(bytes.len() as u64) as usize),

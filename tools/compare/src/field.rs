@@ -1,6 +1,7 @@
 //! Exposures as a camera would take them: directions seen from an attitude,
 //! spots where they project, noise, strays, and a start that is a little off.
 
+use crate::cuts;
 use crate::exposure::Exposure;
 use crate::rng::Rng;
 
@@ -106,6 +107,7 @@ impl Plan {
             mirror: r.once_in(2),
             scale: self.scale,
             radius: (self.scale * self.radius).min(1.0) as f32,
+            cut: cuts::LEAST,
             limit: self.limit,
             rounds: self.rounds,
             rotation: narrowed(&start),

@@ -1,6 +1,7 @@
 //! Kinds that meet refusal 12 or 13 in the run, early and late, or only just
 //! do not.
 
+use crate::cuts;
 use crate::exposure::Exposure;
 use crate::field::{attitude, direction, narrowed, Plan, Rows, DIRECTIONS, SPOTS};
 use crate::rng::Rng;
@@ -97,6 +98,7 @@ fn start(r: &mut Rng, attitude: Rows, scale: f64, n: usize, far: f64) -> Exposur
         mirror: r.once_in(2),
         scale,
         radius: 0.5,
+        cut: cuts::LEAST,
         limit: 0,
         rounds: r.whole(2, 20) as u32,
         rotation: narrowed(&attitude),

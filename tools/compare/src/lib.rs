@@ -1,19 +1,31 @@
 //! Seeded exposure records of many kinds.
 
+pub mod cuts;
 pub mod exposure;
 pub mod faults;
 pub mod field;
 pub mod late;
 pub mod rng;
 pub mod runs;
+pub mod tilted;
 
+use exposure::Exposure;
 use rng::Rng;
 
-/// A kind: its name, its share among all, and how a record of it is made.
+/// Sets the cut's numbers apart from the others of the same seed.
+const CUTS: u64 = 0x9C07_C07C;
+
+/// A kind: its name, its share among all, and how a record of it is made of
+/// two sources of numbers, the second for the cut.
 pub struct Kind {
     pub name: &'static str,
     pub share: u64,
-    make: fn(&mut Rng) -> Vec<u8>,
+    make: fn(&mut Rng, &mut Rng) -> Vec<u8>,
+}
+
+/// A record whose kind is not about the cut: any within its range.
+fn cut(e: Exposure, c: &mut Rng) -> Vec<u8> {
+    Exposure { cut: cuts::drawn(c), ..e }.bytes()
 }
 
 macro_rules! kinds {
@@ -23,36 +35,37 @@ macro_rules! kinds {
 }
 
 kinds! {
-    "field" 20 |r| runs::field(r).bytes();
-    "poor" 6 |r| runs::poor(r).bytes();
-    "clipped" 8 |r| runs::clipped(r).bytes();
-    "drifting" 8 |r| runs::drifting(r).bytes();
-    "polar" 6 |r| runs::polar(r).bytes();
-    "backwards" 6 |r| runs::backwards(r).bytes();
-    "tied" 6 |r| runs::tied(r).bytes();
-    "gridded" 6 |r| runs::gridded(r).bytes();
-    "brimful" 2 |r| late::brimful(r).bytes();
-    "grazing" 4 |r| runs::grazing(r).bytes();
-    "narrow" 5 |r| runs::narrow(r).bytes();
-    "crowded" 4 |r| runs::crowded(r).bytes();
-    "wild" 8 |r| runs::wild(r).bytes();
-    "behind" 4 |r| runs::behind(r).bytes();
-    "empty" 2 |r| runs::empty(r).bytes();
-    "pointlike" 3 |r| late::pointlike(r).bytes();
-    "late-12" 2 |r| late::late_12(r).bytes();
-    "late-13" 2 |r| late::late_13(r).bytes();
-    "bounds" 7 |r| faults::bounds(r).bytes();
-    "several" 2 |r| faults::several(r).bytes();
-    "holding" 3 |r| faults::holding(r).bytes();
-    "damaged" 9 |r| faults::damaged(r);
+    "field" 20 |r, c| cut(runs::field(r), c);
+    "poor" 6 |r, c| cut(runs::poor(r), c);
+    "clipped" 8 |r, c| cut(runs::clipped(r), c);
+    "drifting" 8 |r, c| cut(runs::drifting(r), c);
+    "polar" 6 |r, c| cut(runs::polar(r), c);
+    "backwards" 6 |r, c| cut(runs::backwards(r), c);
+    "tied" 6 |r, c| cut(runs::tied(r), c);
+    "gridded" 6 |r, c| cut(runs::gridded(r), c);
+    "brimful" 2 |r, c| cut(late::brimful(r), c);
+    "grazing" 4 |r, c| runs::grazing(r, c).bytes();
+    "tilted" 8 |r, c| tilted::tilted(r, c).bytes();
+    "narrow" 5 |r, c| cut(runs::narrow(r), c);
+    "crowded" 4 |r, c| cut(runs::crowded(r), c);
+    "wild" 8 |r, c| cut(runs::wild(r), c);
+    "behind" 4 |r, c| runs::behind(r, c).bytes();
+    "empty" 2 |r, c| cut(runs::empty(r), c);
+    "pointlike" 3 |r, c| cut(late::pointlike(r), c);
+    "late-12" 2 |r, c| cut(late::late_12(r), c);
+    "late-13" 2 |r, c| cut(late::late_13(r), c);
+    "bounds" 7 |r, c| faults::bounds(r, c).bytes();
+    "several" 2 |r, c| faults::several(r, c).bytes();
+    "holding" 3 |r, c| cut(faults::holding(r), c);
+    "damaged" 9 |r, c| faults::damaged(r, c);
     // Longer than a record may be: only by name, for calls at full limits.
-    "full-size" 0 |r| faults::full_size(r).bytes();
+    "full-size" 0 |r, c| cut(faults::full_size(r), c);
 }
 
 /// Record number `item` of a seed, of any kind or of the one named, with its
 /// kind's name.
 pub fn record(seed: u64, item: u64, kind: Option<&str>) -> Option<(&'static str, Vec<u8>)> {
-    let mut r = Rng::new(seed, item);
+    let (mut r, mut c) = (Rng::new(seed, item), Rng::new(seed ^ CUTS, item));
     let all: u64 = KINDS.iter().map(|k| k.share).sum();
     let mut ticket = r.below(all);
     let chosen = match kind {
@@ -63,5 +76,5 @@ pub fn record(seed: u64, item: u64, kind: Option<&str>) -> Option<(&'static str,
             won
         })?,
     };
-    Some((chosen.name, (chosen.make)(&mut r)))
+    Some((chosen.name, (chosen.make)(&mut r, &mut c)))
 }

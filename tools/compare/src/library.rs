@@ -85,7 +85,8 @@ fn difference(was: &Lists, now: &Lists, said: &Said, due: &Result<Answer, u8>) -
         && same_floats(&now.distances, &was.distances);
     match due {
         Err(n) => {
-            let lists = now.result == was.result && if *n < 12 { untouched } else { zero(now) };
+            // Only 12 and 13 are met in the run.
+            let lists = now.result == was.result && if matches!(n, 12 | 13) { zero(now) } else { untouched };
             let nothing = said.counts == [0; 4] && said.values.iter().all(|v| v.to_bits() == 0);
             (said.refusal != *n as usize || !lists || !nothing)
                 .then(|| format!("refused {n}, here {}; lists {lists}, values zero {nothing}", said.refusal))

@@ -1,6 +1,15 @@
 //! Seeded numbers (splitmix64). Everything derived from them uses only
 //! arithmetic that IEEE 754 fixes, so a seed gives the same on every host.
 
+/// The f64 so many steps above in size, or below.
+pub fn beside64(x: f64, steps: i64) -> f64 {
+    f64::from_bits((x.to_bits() as i64 + steps) as u64)
+}
+
+pub fn beside32(x: f32, steps: i32) -> f32 {
+    f32::from_bits((x.to_bits() as i32 + steps) as u32)
+}
+
 pub struct Rng(u64);
 
 impl Rng {

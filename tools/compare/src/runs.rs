@@ -1,8 +1,10 @@
 //! Kinds of exposures that reach the run and take it along different ways.
 
+use crate::cuts;
 use crate::exposure::Exposure;
 use crate::field::{attitude, looking, narrowed, squarely, turned, Plan, SPOTS};
 use crate::rng::Rng;
+use crate::tilted::shorten;
 
 /// An ordinary field.
 pub fn field(r: &mut Rng) -> Exposure {
@@ -152,6 +154,7 @@ pub fn wild(r: &mut Rng) -> Exposure {
         mirror: r.once_in(2),
         scale: r.size(low, 0),
         radius: r.size(wide, 0) as f32,
+        cut: cuts::LEAST,
         limit: r.whole(0, 30) as u32,
         rounds: many_rounds(r),
         rotation: [0; 9].map(|_| if flat { r.pick(&[0.0, -0.0, 1.0]) } else { entry(r) }),
@@ -188,6 +191,7 @@ pub fn gridded(r: &mut Rng) -> Exposure {
         mirror: r.once_in(2),
         scale,
         radius: (scale * radius) as f32,
+        cut: cuts::LEAST,
         limit: r.whole(0, 45) as u32,
         rounds: r.whole(1, 8) as u32,
         rotation: [0.0, 1.0, 0.0, 0.0, 0.0, 1.0, 1.0, 0.0, 0.0],
@@ -198,16 +202,21 @@ pub fn gridded(r: &mut Rng) -> Exposure {
 }
 
 /// Directions whose denominator is about the plane cut: nearly in the plane,
-/// or so short that they lie within the field all the same.
-pub fn grazing(r: &mut Rng) -> Exposure {
+/// or so short that they lie within the field all the same. The start looks
+/// exactly along the first axis, so that the first component is the
+/// denominator.
+pub fn grazing(r: &mut Rng, c: &mut Rng) -> Exposure {
+    let cut = cuts::meeting(c);
     let scale = 1.0 / (1u64 << r.whole(2, 8)) as f64;
     let spots: Vec<[f64; 2]> =
         (0..r.whole(4, 20)).map(|_| [0, 1].map(|_| r.between(-6.0, 6.0).round())).collect();
     let mut directions = Vec::new();
+    // Where each spot lies exactly at its direction, the pose stays as it is.
+    let off = c.pick(&[0.0, 0.2]);
     for s in &spots {
-        let cut = r.pick(&[9.9e-13, 1e-12, 1.01e-12]);
-        let size = if r.once_in(3) { cut } else { r.size(-44, -18) };
-        let [xi, eta] = s.map(|x| (x + 0.2 * r.normal()) * scale);
+        let at = cut * r.pick(&[0.99, 1.0, 1.01]);
+        let size = if r.once_in(3) { at } else { r.size(-44, -18).max(cuts::about(c, cut)) };
+        let [xi, eta] = s.map(|x| (x + off * r.normal()) * scale);
         directions.push(match r.below(4) {
             0 => [size, xi + 1.0, eta],
             1 | 2 => [size, size * xi, size * eta],
@@ -220,6 +229,7 @@ pub fn grazing(r: &mut Rng) -> Exposure {
         scale,
         // From about 0.4 on the query lists what lies at a right angle too.
         radius: r.pick(&[0.1, 0.4, 0.5, 1.0]),
+        cut,
         limit: r.whole(0, 25) as u32,
         rounds: r.pick(&[0, 0, 1, 2, 10]),
         rotation: [0.0, 1.0, 0.0, 0.0, 0.0, 1.0, 1.0, 0.0, 0.0],
@@ -229,8 +239,9 @@ pub fn grazing(r: &mut Rng) -> Exposure {
     }
 }
 
-/// Some or all matched directions lie behind the plane or in it.
-pub fn behind(r: &mut Rng) -> Exposure {
+/// Some or all matched directions lie behind the plane or in it, and some
+/// directions are so short that their denominator is about the cut.
+pub fn behind(r: &mut Rng, c: &mut Rng) -> Exposure {
     let mut p = Plan::ordinary(r);
     p.pairs = r.whole(6, 40);
     p.strays = r.whole(0, 20);
@@ -245,6 +256,9 @@ pub fn behind(r: &mut Rng) -> Exposure {
             _ => attitude(r)[2].map(|c| c as f32),
         };
     }
+    e.cut = cuts::meeting(c);
+    let seldom = c.pick(&[1, 3, 8]);
+    shorten(c, &mut e, seldom);
     e
 }
 

@@ -1,4 +1,4 @@
-//! The refinement call: refusals 5 to 11, then the reference's run with
+//! The refinement call: refusals 5 to 11 and 14, then the reference's run with
 //! refusals 12 and 13.
 
 use std::f32::consts::TAU;
@@ -20,6 +20,9 @@ const MOST_DIRECTIONS: usize = 65_536;
 const MOST_ROUNDS: u64 = 64;
 /// 2^-30, the least pixel scale and match radius.
 const LEAST: f64 = 1.0 / 1_073_741_824.0;
+/// The plane cut, which the reference has as a constant, the least.
+pub const LEAST_CUT: f64 = 1e-12;
+const GREATEST_CUT: f64 = 0.5;
 const GREATEST_COORDINATE: f64 = 1_048_576.0;
 const GREATEST_COMPONENT: f32 = 2.0;
 /// Working places for each spot, match and direction.
@@ -51,7 +54,7 @@ pub struct Answer {
     pub counts: [u64; 3],
 }
 
-/// Refusals 5 to 11, in their order.
+/// Refusals 5 to 11 in their order, with 14 after 8.
 pub fn check(e: &Exposure, lent: &Lent) -> Result<(), u8> {
     let [spots, matches, directions] =
         [e.spots.len() / 2, e.matches.len() / 2, e.directions.len() / 3];
@@ -70,6 +73,9 @@ pub fn check(e: &Exposure, lent: &Lent) -> Result<(), u8> {
     }
     if !(LEAST..=1.0).contains(&(e.radius as f64)) {
         return Err(8);
+    }
+    if !(LEAST_CUT..=GREATEST_CUT).contains(&e.cut) {
+        return Err(14);
     }
     let far = |x: &f64| !(x.abs() <= GREATEST_COORDINATE);
     let long = |x: &f32| !(x.abs() <= GREATEST_COMPONENT);
@@ -97,6 +103,7 @@ pub struct Prepared {
     scale: f64,
     mirror: bool,
     radius: f32,
+    cut: f64,
     limit: usize,
     rounds: u32,
     pairs: usize,
@@ -121,6 +128,7 @@ impl Prepared {
             scale: e.scale,
             mirror: e.mirror,
             radius: e.radius,
+            cut: e.cut,
             limit: e.limit,
             rounds: e.rounds as u32,
             pairs: lent.pairs(),
@@ -156,6 +164,7 @@ impl Prepared {
                 self.scale,
                 self.mirror,
                 self.radius,
+                self.cut,
                 self.limit,
                 self.rounds,
             )

@@ -1,13 +1,13 @@
 //! `oracle differences`: what the reference itself does on the inputs of the
-//! first table of docs/DIFFERENCES.md. No refusal is given here: 5 to 11 are
-//! not looked for, and 12 and 13 are switched off within the run.
+//! first table of docs/DIFFERENCES.md. No refusal is given here: 5 to 11 and 14
+//! are not looked for, and 12 and 13 are switched off within the run.
 
 use std::any::Any;
 use std::hint::black_box;
 use std::panic::{catch_unwind, resume_unwind, set_hook, AssertUnwindSafe};
 
 use reference::answer::bits;
-use reference::call::{Answer, Lent, Prepared};
+use reference::call::{Answer, Lent, Prepared, LEAST_CUT};
 use reference::plain_stats;
 use reference::record::{read_any, Exposure};
 use reference::solver::matching::{greedy_unique_matches, MatchScratch};
@@ -18,21 +18,21 @@ use crate::exposure::encoded;
 /// The calls of crates/calls/specs/SecondQuery.antt and FarTurn.antt, and one
 /// whose matches change in every round, as records.
 const SECOND_QUERY: &str = "\
-    0500040080808080808080A83FEFA48CD40305038080808008808080FC0300008080808008808080FC03808080FC03\
-    00008080808080809C9240808080808080A0F2BF01808080808080EC8FC00180808080808098894080808080808080\
-    83408080808080808E9340808080808080E886C0018080808080808492C00180808080808080A74000808080FC038A\
-    AE8FE10300808080FC03EFA48CE00BEFA48CDC03808080FC03EFA48CD803D8F2D0E103808080FC03A6B792DA0B8AAE\
-    8FE10B";
+    0500040080808080808080A83FEFA48CD40391D4B78998F3E5B83D05038080808008808080FC030000808080800880\
+    8080FC03808080FC0300008080808080809C9240808080808080A0F2BF01808080808080EC8FC00180808080808098\
+    89408080808080808083408080808080808E9340808080808080E886C0018080808080808492C00180808080808080\
+    A74000808080FC038AAE8FE10300808080FC03EFA48CE00BEFA48CDC03808080FC03EFA48CD803D8F2D0E103808080\
+    FC03A6B792DA0B8AAE8FE10B";
 const FAR_TURN: &str = "\
-    0303030080808080808080A83F8AAE8FE10303028080808008808080FC0300008080808008808080FC03808080FC03\
-    0000000080808080808080D83E000080808080808080D83E000001010202808080FC038AAE8FE10300808080FC03EF\
-    A48CE00BEFA48CDC03808080FC03EFA48CD803D8F2D0E103";
+    0303030080808080808080A83F8AAE8FE10391D4B78998F3E5B83D03028080808008808080FC030000808080800880\
+    8080FC03808080FC030000000080808080808080D83E000080808080808080D83E000001010202808080FC038AAE8F\
+    E10300808080FC03EFA48CE00BEFA48CDC03808080FC03EFA48CD803D8F2D0E103";
 const EVER_OTHER: &str = "\
-    0501050180808080808080C83F808080F803044000808080FC03000000808080FC03808080FC030000808080808080\
-    808A408080808080808080C00180808080808080804080808080808080F8BF01808080808080808840808080808080\
-    80F83F80808080808080F83F8080808080808080C0018080808080808080C0018080808080808080400000808080FC\
-    0396EFE5EC03C3DFD6E80B808080FC038097A4E80389C1AFE40BCEB2B1CC028DF79FFC03BDFDB0E203EDF3A1A0039B\
-    F09C8703FCD0B88C0BA6E4A99103A582DFFC0AE4DB94FD02";
+    0501050180808080808080C83F808080F80391D4B78998F3E5B83D044000808080FC03000000808080FC03808080FC\
+    030000808080808080808A408080808080808080C00180808080808080804080808080808080F8BF01808080808080\
+    80884080808080808080F83F80808080808080F83F8080808080808080C0018080808080808080C001808080808080\
+    8080400000808080FC0396EFE5EC03C3DFD6E80B808080FC038097A4E80389C1AFE40BCEB2B1CC028DF79FFC03BDFD\
+    B0E203EDF3A1A0039BF09C8703FCD0B88C0BA6E4A99103A582DFFC0AE4DB94FD02";
 
 /// Lists of any length.
 const ANY: Lent = Lent {
@@ -53,6 +53,7 @@ pub fn main() {
     call("many-pairs", "", &many_pairs());
     call("far-turn", "", &recorded(FAR_TURN));
     not_finite();
+    cuts_outside();
     more_than_refusal_6_has();
     numbers_of_directions();
     covariance_of_many();
@@ -120,6 +121,7 @@ fn ahead() -> Exposure {
     Exposure {
         scale: 1.0 / 1024.0,
         radius: 1.0 / 128.0,
+        cut: LEAST_CUT,
         limit: 4_097,
         rounds: 1,
         rotation: [1.0, 0.0, 0.0, 0.0, 1.0, 0.0, 0.0, 0.0, 1.0],
@@ -149,7 +151,8 @@ fn numbers(e: &Exposure) -> Vec<u64> {
     let counts = [e.spots.len() / 2, e.matches.len() / 2, e.directions.len() / 3];
     let mut all: Vec<u64> = counts.iter().map(|&n| n as u64).collect();
     all.push(e.mirror as u64);
-    all.extend([e.scale.to_bits(), e.radius.to_bits() as u64, e.limit as u64, e.rounds]);
+    all.extend([e.scale.to_bits(), e.radius.to_bits() as u64, e.cut.to_bits()]);
+    all.extend([e.limit as u64, e.rounds]);
     all.extend(e.rotation.iter().map(|x| x.to_bits() as u64));
     all.extend(e.spots.iter().map(|x| x.to_bits()));
     all.extend(e.matches.iter().map(|&i| i as u64));
@@ -184,6 +187,15 @@ fn not_finite() {
     call_with("rotation", &|e, x| e.rotation[6] = x as f32);
     call_with("scale", &|e, x| e.scale = x);
     call_with("radius", &|e, x| e.radius = x as f32);
+}
+
+/// The second query's call with a cut below the least, one that drops every
+/// direction, and one that drops none.
+fn cuts_outside() {
+    for (what, cut) in [("0", 0.0), ("1", 1.0), ("NaN", f64::NAN)] {
+        let e = Exposure { cut, ..recorded(SECOND_QUERY) };
+        call("cut-outside", &format!("cut {what}, "), &e);
+    }
 }
 
 /// One more of each than refusal 6 lets pass, the last of each in use. What is

@@ -97,7 +97,7 @@ fn projections(name: &str, a: &mut Words) -> Option<Out> {
         }
         "tan_basis" => Some(Out::new().matrix(w::tan_basis(a.f64()?, a.f64()?))),
         "tan_project_vec" => {
-            let at = w::tan_project_vec(&a.three32()?, &a.matrix()?);
+            let at = w::tan_project_vec(&a.three32()?, &a.matrix()?, a.f64()?);
             maybe(at.map(|(xi, eta)| [xi, eta]))
         }
         "predict_tanplane" => {
@@ -127,26 +127,27 @@ fn equations(name: &str, a: &mut Words) -> Option<Out> {
     }
 }
 
-/// What goes over the matches at a pose: theta, RA, Dec, scale, then spots,
-/// matches and directions.
+/// What goes over the matches at a pose: theta, RA, Dec, scale, the plane cut,
+/// then spots, matches and directions.
 fn fit(name: &str, a: &mut Words) -> Option<Out> {
     if !["normal_matrix", "compute_residuals", "ls_fit_once"].contains(&name) {
         return None;
     }
     let (theta, ra, dec, ps) = (a.f64()?, a.f64()?, a.f64()?, a.f64()?);
+    let cut = a.f64()?;
     let (spots, matches, directions) = (a.spots()?, a.pairs()?, a.directions()?);
     let vectors = StarVectors::with_observer_velocity(&directions, None);
     match name {
         "normal_matrix" => {
-            let (ata, n) = w::normal_matrix(&matches, vectors, &spots, theta, ra, dec, ps);
+            let (ata, n) = w::normal_matrix(cut, &matches, vectors, &spots, theta, ra, dec, ps);
             Some(Out::new().matrix(ata).number(n))
         }
         "compute_residuals" => {
-            let residuals = w::compute_residuals(&matches, vectors, &spots, theta, ra, dec, ps);
+            let residuals = w::compute_residuals(cut, &matches, vectors, &spots, theta, ra, dec, ps);
             let out = Out::new().number(residuals.len());
             Some(residuals.into_iter().fold(out, |out, (i, r)| out.number(i).floats([r])))
         }
-        _ => maybe(w::ls_fit_once(&matches, vectors, &spots, theta, ra, dec, ps)),
+        _ => maybe(w::ls_fit_once(cut, &matches, vectors, &spots, theta, ra, dec, ps)),
     }
 }
 

@@ -2,7 +2,7 @@
 //! notes of the steps taken, for the coverage.
 //!
 //! A refusal leaves the run by unwinding, so that no signature of the
-//! reference has to change; `call.rs` catches it.
+//! reference has to change for it; `call.rs` catches it.
 
 use std::cell::Cell;
 use std::panic::resume_unwind;

@@ -36,7 +36,8 @@ oracle bench               times of the run, the matcher and the median";
 /// The call without the program's small lists.
 struct Full {
     lent: Lent,
-    cut: [usize; 3],
+    /// Places left off the flat lists.
+    less: [usize; 3],
 }
 
 fn main() {
@@ -79,7 +80,7 @@ impl Full {
             indices: 4 * pairs,
             cells: None,
         };
-        let mut cut = [0; 3];
+        let mut less = [0; 3];
         for option in options.chunks(2) {
             let [name, value] = option else { usage() };
             let value: usize = value.parse().unwrap_or_else(|_| usage());
@@ -89,21 +90,21 @@ impl Full {
                 "--wholes" => lent.wholes = value,
                 "--floats" => lent.floats = value,
                 "--result" => lent.result = value,
-                "--cut-spots" => cut[0] = value,
-                "--cut-matches" => cut[1] = value,
-                "--cut-directions" => cut[2] = value,
+                "--cut-spots" => less[0] = value,
+                "--cut-matches" => less[1] = value,
+                "--cut-directions" => less[2] = value,
                 "--cells" => lent.cells = Some(value as u32),
                 _ => usage(),
             }
         }
-        Full { lent, cut }
+        Full { lent, less }
     }
 
     fn answer(&self, record: &[u8]) -> Result<Answer, u8> {
         let mut e = read_any(record)?;
-        e.spots.truncate(e.spots.len().saturating_sub(self.cut[0]));
-        e.matches.truncate(e.matches.len().saturating_sub(self.cut[1]));
-        e.directions.truncate(e.directions.len().saturating_sub(self.cut[2]));
+        e.spots.truncate(e.spots.len().saturating_sub(self.less[0]));
+        e.matches.truncate(e.matches.len().saturating_sub(self.less[1]));
+        e.directions.truncate(e.directions.len().saturating_sub(self.less[2]));
         refine(&e, &self.lent, false)
     }
 }

@@ -9,6 +9,8 @@ pub struct Exposure {
     pub mirror: bool,
     pub scale: f64,
     pub radius: f32,
+    /// A direction is dropped where its denominator is at most this.
+    pub cut: f64,
     pub limit: usize,
     pub rounds: u64,
     pub rotation: [f32; 9],
@@ -60,6 +62,7 @@ impl Reader<'_> {
             mirror: self.number(1)? == 1,
             scale: self.f64()?,
             radius: self.f32()?,
+            cut: self.f64()?,
             limit: self.number(32)? as usize,
             rounds: self.number(32)?,
             ..Exposure::default()

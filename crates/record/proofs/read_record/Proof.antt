@@ -1,6 +1,7 @@
 -- `record::read_record` meets its contract: refused, the lists are as they came; else each takes its numbers at its front. Assumes nothing.
 use native.Mathlib.Omega.{arith}
 use borrow.Author.Needs.{needs}
+use Rattle.record.specs.Head.{headSpots, headMatches, headDirections}
 use Rattle.record.proofs.IntakeSteps.{lent, read-refused, few-spots, few-matches, few-directions, read-whole}
 use Rattle.record.proofs.read_record.Statement.{statement}
 use Rattle.record.proofs.read_record.Tie as tie
@@ -23,7 +24,7 @@ array-read-n c = search needs
 mul-n : tie.Need-mul-n
 mul-n c =
     let f = c .before .before .before .look-over in
-    omega (arith, f .ensures .lawful (c .before .if1 .left) .fit 0 (omega arith))
+    omega (arith, f .ensures .lawful (c .before .if1 .left) .fit headSpots (omega arith))
 
 array-read-m : tie.Need-array-read-m
 array-read-m c = search needs
@@ -31,7 +32,7 @@ array-read-m c = search needs
 mul-m : tie.Need-mul-m
 mul-m c =
     let f = c .before .before .before .look-over in
-    omega (arith, f .ensures .lawful (c .before .if1 .left) .fit 1 (omega arith))
+    omega (arith, f .ensures .lawful (c .before .if1 .left) .fit headMatches (omega arith))
 
 array-read-d : tie.Need-array-read-d
 array-read-d c = search needs
@@ -39,7 +40,7 @@ array-read-d c = search needs
 mul-d : tie.Need-mul-d
 mul-d c =
     let f = c .before .before .before .look-over in
-    omega (arith, f .ensures .lawful (c .before .if1 .left) .fit 2 (omega arith))
+    omega (arith, f .ensures .lawful (c .before .if1 .left) .fit headDirections (omega arith))
 
 refused-requires-2 : tie.Need-refused-requires-2
 refused-requires-2 c κs = search needs

@@ -23,7 +23,7 @@ settings-of-requires c κs = search needs
 begin-requires : tie.Need-begin-requires
 begin-requires c κs =
     let a = c .before .before .before .before .before .before .before .before .before .before .args in
-    let q = called (a .spots .now) (a .matches .now) (a .directions .now) (a .rotation) (a .scale) (a .mirror) (a .radius) (a .limit) (a .rounds) (lists (a .numbers .now) (a .floats .now) (a .distances .now) (a .indices .now) (a .result .now)) in
+    let q = called (a .spots .now) (a .matches .now) (a .directions .now) (a .rotation) (a .scale) (a .mirror) (a .radius) (a .cut) (a .limit) (a .rounds) (lists (a .numbers .now) (a .floats .now) (a .distances .now) (a .indices .now) (a .result .now)) in
     let lawful = c .before .before .before .before .before .before .before .before .before .before .pre in
     begin-fits q lawful
 
@@ -31,7 +31,7 @@ run-requires : tie.Need-run-requires
 unfolding fixed
 run-requires c κs =
     let a = c .before .before .before .before .before .before .before .before .before .before .before .before .before .before .before .before .before .args in
-    let q = called (a .spots .now) (a .matches .now) (a .directions .now) (a .rotation) (a .scale) (a .mirror) (a .radius) (a .limit) (a .rounds) (lists (a .numbers .now) (a .floats .now) (a .distances .now) (a .indices .now) (a .result .now)) in
+    let q = called (a .spots .now) (a .matches .now) (a .directions .now) (a .rotation) (a .scale) (a .mirror) (a .radius) (a .cut) (a .limit) (a .rounds) (lists (a .numbers .now) (a .floats .now) (a .distances .now) (a .indices .now) (a .result .now)) in
     let lawful = c .before .before .before .before .before .before .before .before .before .before .before .before .before .before .before .before .before .pre in
     let k = c .before .before .before .before .before .before .before .before .settings-of .result in
     let same : fixedOf k ≡ fixed q = c .before .before .before .before .before .before .before .before .settings-of .ensures in
@@ -59,7 +59,7 @@ returns : tie.Need-returns
 unfolding fixed start startPose
 returns c =
     let a = c .before .before .before .before .before .before .before .before .before .before .before .before .before .before .before .before .before .before .before .before .before .before .before .before .before .before .before .before .before .args in
-    let q = called (a .spots .now) (a .matches .now) (a .directions .now) (a .rotation) (a .scale) (a .mirror) (a .radius) (a .limit) (a .rounds) (lists (a .numbers .now) (a .floats .now) (a .distances .now) (a .indices .now) (a .result .now)) in
+    let q = called (a .spots .now) (a .matches .now) (a .directions .now) (a .rotation) (a .scale) (a .mirror) (a .radius) (a .cut) (a .limit) (a .rounds) (lists (a .numbers .now) (a .floats .now) (a .distances .now) (a .indices .now) (a .result .now)) in
     let lawful = c .before .before .before .before .before .before .before .before .before .before .before .before .before .before .before .before .before .before .before .before .before .before .before .before .before .before .before .before .before .pre in
     let k = c .before .before .before .before .before .before .before .before .before .before .before .before .before .before .before .before .before .before .before .before .settings-of .result in
     let same : fixedOf k ≡ fixed q = c .before .before .before .before .before .before .before .before .before .before .before .before .before .before .before .before .before .before .before .before .settings-of .ensures in
@@ -72,7 +72,7 @@ finish-requires : tie.Need-finish-requires
 unfolding fixed start startPose
 finish-requires c κs =
     let a = c .before .before .before .before .before .before .before .before .before .before .before .before .before .before .before .before .before .before .before .before .before .before .before .before .before .before .before .before .before .before .before .args in
-    let q = called (a .spots .now) (a .matches .now) (a .directions .now) (a .rotation) (a .scale) (a .mirror) (a .radius) (a .limit) (a .rounds) (lists (a .numbers .now) (a .floats .now) (a .distances .now) (a .indices .now) (a .result .now)) in
+    let q = called (a .spots .now) (a .matches .now) (a .directions .now) (a .rotation) (a .scale) (a .mirror) (a .radius) (a .cut) (a .limit) (a .rounds) (lists (a .numbers .now) (a .floats .now) (a .distances .now) (a .indices .now) (a .result .now)) in
     let lawful = c .before .before .before .before .before .before .before .before .before .before .before .before .before .before .before .before .before .before .before .before .before .before .before .before .before .before .before .before .before .before .before .pre in
     let k = c .before .before .before .before .before .before .before .before .before .before .before .before .before .before .before .before .before .before .before .before .before .before .settings-of .result in
     let same : fixedOf k ≡ fixed q = c .before .before .before .before .before .before .before .before .before .before .before .before .before .before .before .before .before .before .before .before .before .before .settings-of .ensures in
@@ -101,7 +101,7 @@ returns-2 : tie.Need-returns-2
 unfolding fixed start startPose
 returns-2 c =
     let a = c .before .before .before .before .before .before .before .before .before .before .before .before .before .before .before .before .before .before .before .before .before .before .before .before .before .before .before .before .before .before .before .before .before .before .before .before .before .before .args in
-    let q = called (a .spots .now) (a .matches .now) (a .directions .now) (a .rotation) (a .scale) (a .mirror) (a .radius) (a .limit) (a .rounds) (lists (a .numbers .now) (a .floats .now) (a .distances .now) (a .indices .now) (a .result .now)) in
+    let q = called (a .spots .now) (a .matches .now) (a .directions .now) (a .rotation) (a .scale) (a .mirror) (a .radius) (a .cut) (a .limit) (a .rounds) (lists (a .numbers .now) (a .floats .now) (a .distances .now) (a .indices .now) (a .result .now)) in
     let lawful = c .before .before .before .before .before .before .before .before .before .before .before .before .before .before .before .before .before .before .before .before .before .before .before .before .before .before .before .before .before .before .before .before .before .before .before .before .before .before .pre in
     let k = c .before .before .before .before .before .before .before .before .before .before .before .before .before .before .before .before .before .before .before .before .before .before .before .before .before .before .before .before .before .settings-of .result in
     let same : fixedOf k ≡ fixed q = c .before .before .before .before .before .before .before .before .before .before .before .before .before .before .before .before .before .before .before .before .before .before .before .before .before .before .before .before .before .settings-of .ensures in

@@ -19,15 +19,15 @@ returns : tie.Need-returns
 unfolding refusal
 returns c =
     let a = c .before .before .before .before .before .before .before .before .before .before .before .args in
-    let q = called (a .spots .now) (a .matches .now) (a .directions .now) (a .rotation) (a .scale) (a .mirror) (a .radius) (a .limit) (a .rounds) (lists (a .numbers .now) (a .floats .now) (a .distances .now) (a .indices .now) (a .result .now)) in
+    let q = called (a .spots .now) (a .matches .now) (a .directions .now) (a .rotation) (a .scale) (a .mirror) (a .radius) (a .cut) (a .limit) (a .rounds) (lists (a .numbers .now) (a .floats .now) (a .distances .now) (a .indices .now) (a .result .now)) in
     let is : c .before .before .refusal-of .result ≡ refusal q = c .before .before .refusal-of .ensures in
-    check-returns q (c .before .before .refusal-of .result) is (c .before .if1 .taken) (c .refused .ensures)
+    check-returns q (c .before .before .refusal-of .result) is (λ z. omega (arith, c .before .if1 .taken)) (c .refused .ensures)
 
 refined-requires : tie.Need-refined-requires
 unfolding refusal
 refined-requires c κs =
     let a = c .before .before .before .before .before .before .before .before .before .before .before .before .before .before .before .args in
-    let q = called (a .spots .now) (a .matches .now) (a .directions .now) (a .rotation) (a .scale) (a .mirror) (a .radius) (a .limit) (a .rounds) (lists (a .numbers .now) (a .floats .now) (a .distances .now) (a .indices .now) (a .result .now)) in
+    let q = called (a .spots .now) (a .matches .now) (a .directions .now) (a .rotation) (a .scale) (a .mirror) (a .radius) (a .cut) (a .limit) (a .rounds) (lists (a .numbers .now) (a .floats .now) (a .distances .now) (a .indices .now) (a .result .now)) in
     let is : c .before .before .before .before .before .before .refusal-of .result ≡ refusal q = c .before .before .before .before .before .before .refusal-of .ensures in
     sym is ∙ c .before .before .before .before .before .if1 .left
 
@@ -53,11 +53,11 @@ returns-2 : tie.Need-returns-2
 unfolding refusal
 returns-2 c =
     let a = c .before .before .before .before .before .before .before .before .before .before .before .before .before .before .before .before .before .before .before .before .before .before .before .before .before .before .before .before .before .before .before .before .before .before .before .before .before .before .before .args in
-    let q = called (a .spots .now) (a .matches .now) (a .directions .now) (a .rotation) (a .scale) (a .mirror) (a .radius) (a .limit) (a .rounds) (lists (a .numbers .now) (a .floats .now) (a .distances .now) (a .indices .now) (a .result .now)) in
+    let q = called (a .spots .now) (a .matches .now) (a .directions .now) (a .rotation) (a .scale) (a .mirror) (a .radius) (a .cut) (a .limit) (a .rounds) (lists (a .numbers .now) (a .floats .now) (a .distances .now) (a .indices .now) (a .result .now)) in
     let is : c .before .before .before .before .before .before .before .before .before .before .before .before .before .before .before .before .before .before .before .before .before .before .before .before .before .before .before .before .before .before .refusal-of .result ≡ refusal q = c .before .before .before .before .before .before .before .before .before .before .before .before .before .before .before .before .before .before .before .before .before .before .before .before .before .before .before .before .before .before .refusal-of .ensures in
     let kept = c .before .before .before .before .before .before .before .before .before .before .before .before .before .before .before .before .before .before .before .before .before .before .before .refined .kept in
     let clear = c .before .before .before .before .before .before .before .before .clear-all .ensures in
-    run-returns q (sym is ∙ c .before .before .before .before .before .before .before .before .before .before .before .before .before .before .before .before .before .before .before .before .before .before .before .before .before .before .before .before .before .if1 .left) (c .before .before .before .before .before .before .before .before .before .before .before .before .before .before .before .before .before .before .before .before .before .before .before .refined .ensures) (length (c .before .before .before .before .before .before .before .before .before .before .before .before .before .before .before .before .before .before .before .before .before .before .before .refined .last .1 .1 .1 .1 .1 .1 .1 .1 .1 .0)) (length (c .before .before .before .before .before .before .before .before .before .before .before .before .before .before .before .before .before .before .before .before .before .before .before .refined .last .1 .1 .1 .1 .1 .1 .1 .1 .1 .1 .0)) (length (c .before .before .before .before .before .before .before .before .before .before .before .before .before .before .before .before .before .before .before .before .before .before .before .refined .last .1 .1 .1 .1 .1 .1 .1 .1 .1 .1 .1 .0)) (length (c .before .before .before .before .before .before .before .before .before .before .before .before .before .before .before .before .before .before .before .before .before .before .before .refined .last .1 .1 .1 .1 .1 .1 .1 .1 .1 .1 .1 .1 .0))
+    run-returns q (sym is ∙ c .before .before .before .before .before .before .before .before .before .before .before .before .before .before .before .before .before .before .before .before .before .before .before .before .before .before .before .before .before .if1 .left) (c .before .before .before .before .before .before .before .before .before .before .before .before .before .before .before .before .before .before .before .before .before .before .before .refined .ensures) (length (c .before .before .before .before .before .before .before .before .before .before .before .before .before .before .before .before .before .before .before .before .before .before .before .refined .last .1 .1 .1 .1 .1 .1 .1 .1 .1 .1 .0)) (length (c .before .before .before .before .before .before .before .before .before .before .before .before .before .before .before .before .before .before .before .before .before .before .before .refined .last .1 .1 .1 .1 .1 .1 .1 .1 .1 .1 .1 .0)) (length (c .before .before .before .before .before .before .before .before .before .before .before .before .before .before .before .before .before .before .before .before .before .before .before .refined .last .1 .1 .1 .1 .1 .1 .1 .1 .1 .1 .1 .1 .0)) (length (c .before .before .before .before .before .before .before .before .before .before .before .before .before .before .before .before .before .before .before .before .before .before .before .refined .last .1 .1 .1 .1 .1 .1 .1 .1 .1 .1 .1 .1 .1 .0))
     (omega (arith, kept)) (omega (arith, kept)) (omega (arith, kept)) (omega (arith, kept)) (clear .0) (clear .1) (clear .2) (clear .3)
 
 pub wcs-refine-spec : {M : Type 1} → statement M

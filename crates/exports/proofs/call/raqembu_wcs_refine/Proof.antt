@@ -49,7 +49,7 @@ returns c =
     let called = written .before .before .before .before .before .before .before .before .before .before .before .before in
     let rows = called .before .before .before .before .before .before in
     let start = rows .before .before .before .before .before .before .before .before .before .before .before .before .before .before in
-    exported _ _ _ (start .args .rotation .now) _ _ _ _ _ _ _ _ _ _ _ _ _ _ _
+    exported _ _ _ (start .args .rotation .now) _ _ _ _ _ _ _ _ _ _ _ _ _ _ _ _
     (rows .before .before .row-at .ensures)
     (rows .before .row-at2 .ensures)
     (rows .row-at3 .ensures)

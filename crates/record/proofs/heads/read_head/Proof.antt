@@ -1,10 +1,10 @@
--- `record::heads::read_head` meets its contract. The invariant: the first numbers stand before what is left to read. Assumes nothing.
+-- `record::heads::read_head` meets its contract. The invariant: the numbers read so far stand before what is left to read. Assumes nothing.
 use mathlib.Core.Path.{sym, _∙_}
 use Prim.Native.Nat.{_-_}
 use native.Mathlib.Omega.{arith}
 use lib.ListN.{getD}
 use borrow.Author.Needs.{needs}
-use Rattle.record.specs.Reading.{headBits}
+use Rattle.record.specs.Head.{headSize, headBits}
 use Rattle.record.specs.Passes.{answered}
 use Rattle.record.proofs.RunSteps.{taken-at}
 use Rattle.record.proofs.HeadSteps.{Heading, heading-first, headed, heading-on, heading-short, heading-wrong}
@@ -15,7 +15,7 @@ abbrev Inv-loop : tie.InvT-loop
 Inv-loop bytes h₀ to₀ i₀ h to i = Heading bytes h to i
 
 abbrev μ-loop : tie.MeasureT-loop
-μ-loop bytes h₀ to₀ i₀ h to i = 17 - i
+μ-loop bytes h₀ to₀ i₀ h to i = headSize - i
 
 loop-holds : tie.Need-loop-holds Inv-loop μ-loop
 loop-holds c = heading-first (c .before .args .bytes .now)

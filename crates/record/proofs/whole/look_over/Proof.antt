@@ -4,7 +4,7 @@ use native.Mathlib.Omega.{arith}
 use borrow.Author.Needs.{needs}
 use lib.ListN.{drop}
 use Rattle.record.specs.Reading.{values}
-use Rattle.record.specs.Passes.{exposure}
+use Rattle.record.specs.Head.{headSpots, headMatches, headDirections, exposure}
 use Rattle.record.proofs.WholeSteps.{numbers-fit, answered-bad, answered-good, stops, read-long, head-bad, spots-bad, matches-bad, directions-bad, read-all, followed, ended}
 use Rattle.record.proofs.whole.look_over.Statement.{statement}
 use Rattle.record.proofs.whole.look_over.Tie as tie
@@ -39,7 +39,7 @@ mul-skip c =
     let h = c .before .before .before .read-head .result in
     let head = answered-good (h .refusal) (values (h .numbers) (drop (h .to) bytes)) (c .before .if2 .left) (c .before .before .before .read-head .ensures) in
     let fit = numbers-fit _ bytes (h .numbers) (drop (h .to) bytes) head in
-    omega (arith, fit 0 (omega arith))
+    omega (arith, fit headSpots (omega arith))
 
 skip-requires : tie.Need-skip-requires
 skip-requires c κs = record { bits = 64; is = refl }
@@ -69,7 +69,7 @@ mul-skip-2 c =
     let h = c .before .before .before .before .before .before .read-head .result in
     let head = answered-good (h .refusal) (values (h .numbers) (drop (h .to) bytes)) (c .before .before .before .before .if2 .left) (c .before .before .before .before .before .before .read-head .ensures) in
     let fit = numbers-fit _ bytes (h .numbers) (drop (h .to) bytes) head in
-    omega (arith, fit 1 (omega arith))
+    omega (arith, fit headMatches (omega arith))
 
 skip-requires-2 : tie.Need-skip-requires-2
 skip-requires-2 c κs = record { bits = 32; is = refl }
@@ -102,7 +102,7 @@ mul-skip-3 c =
     let h = c .before .before .before .before .before .before .before .before .before .read-head .result in
     let head = answered-good (h .refusal) (values (h .numbers) (drop (h .to) bytes)) (c .before .before .before .before .before .before .before .if2 .left) (c .before .before .before .before .before .before .before .before .before .read-head .ensures) in
     let fit = numbers-fit _ bytes (h .numbers) (drop (h .to) bytes) head in
-    omega (arith, fit 2 (omega arith))
+    omega (arith, fit headDirections (omega arith))
 
 skip-requires-3 : tie.Need-skip-requires-3
 skip-requires-3 c κs = record { bits = 32; is = refl }
