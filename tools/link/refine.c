@@ -8,6 +8,8 @@
 
 #include "raqembu.h"
 
+_Static_assert(RAQEMBU_VERSION == 2, "written for version 2 of raqembu.h");
+
 _Static_assert(sizeof(size_t) == 8, "size_t has 64 bits");
 
 enum { SPOTS = 64, MATCHES = 64, DIRECTIONS = 256, RECORD = 65536, WORKING = 16 * (SPOTS + MATCHES + DIRECTIONS) };

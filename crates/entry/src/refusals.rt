@@ -228,7 +228,8 @@ fn or_else(first: usize, second: usize) -> usize
     second
 }
 
-// The number of the first check that fails, or 0. The counts come before all else, since what follows is made for few. Of the lists of numbers, floats and results only the lengths count.
+// The number of the first check that fails, or 0. A call with too many of something ends at the counts; of one that passes them every check is
+// made, and the first that fails answers. Of the lists of numbers, floats and results only the lengths count.
 pub fn refusal_of(
     spots: &[f64],
     matches: &[usize],

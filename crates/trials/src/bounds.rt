@@ -18,18 +18,23 @@ struct Choices {
     pub result: usize,
 }
 
-// A lawful choice, with lists long enough for four things.
-fn lawful() -> Choices {
+// With lists long enough for four things.
+fn measured(scale: f64, radius: f32, cut: f64) -> Choices {
     Choices {
-        scale: 0.0009765625,
-        radius: 0.0078125,
-        cut: LEAST_CUT,
+        scale,
+        radius,
+        cut,
         limit: 1,
         rounds: 1,
         numbers: 64,
         floats: 64,
         result: 2,
     }
+}
+
+// A lawful choice.
+fn lawful() -> Choices {
+    measured(0.0009765625, 0.0078125, LEAST_CUT)
 }
 
 fn identity() -> [[f32; 3]; 3] {
@@ -252,19 +257,7 @@ fn rounds(name: &[u8], n: usize) {
 }
 
 fn scaled(name: &[u8], bits: u64) {
-    choice(
-        name,
-        Choices {
-            scale: from_bits64(bits),
-            radius: 0.0078125,
-            cut: LEAST_CUT,
-            limit: 1,
-            rounds: 1,
-            numbers: 64,
-            floats: 64,
-            result: 2,
-        },
-    );
+    choice(name, measured(from_bits64(bits), 0.0078125, LEAST_CUT));
 }
 
 pub(crate) fn scale() {
@@ -278,19 +271,7 @@ pub(crate) fn scale() {
 }
 
 fn reached(name: &[u8], bits: u32) {
-    choice(
-        name,
-        Choices {
-            scale: 0.0009765625,
-            radius: from_bits32(bits),
-            cut: LEAST_CUT,
-            limit: 1,
-            rounds: 1,
-            numbers: 64,
-            floats: 64,
-            result: 2,
-        },
-    );
+    choice(name, measured(0.0009765625, from_bits32(bits), LEAST_CUT));
 }
 
 pub(crate) fn radius() {
@@ -300,6 +281,58 @@ pub(crate) fn radius() {
     reached(b"radius above 1", 0x3F80_0001);
     reached(b"radius NaN", 0x7FC0_0000);
     reached(b"radius infinite", 0x7F80_0000);
+}
+
+fn dropping(name: &[u8], bits: u64) {
+    choice(name, measured(0.0009765625, 0.0078125, from_bits64(bits)));
+}
+
+pub(crate) fn cut() {
+    dropping(b"cut 1e-12", 0x3D71_9799_812D_EA11);
+    dropping(b"cut below 1e-12", 0x3D71_9799_812D_EA10);
+    dropping(b"cut above 1e-12", 0x3D71_9799_812D_EA12);
+    dropping(b"cut 0.5", 0x3FE0_0000_0000_0000);
+    dropping(b"cut above 0.5", 0x3FE0_0000_0000_0001);
+    dropping(b"cut below 0.5", 0x3FDF_FFFF_FFFF_FFFF);
+    dropping(b"cut 0", 0x0000_0000_0000_0000);
+    dropping(b"cut -0", 0x8000_0000_0000_0000);
+    dropping(b"cut -1e-12", 0xBD71_9799_812D_EA11);
+    dropping(b"cut NaN", 0x7FF8_0000_0000_0000);
+    dropping(b"cut infinite", 0x7FF0_0000_0000_0000);
+}
+
+// A coordinate is no number, so that a call whose measures pass is told by 9.
+fn before_nine(name: &[u8], c: Choices) {
+    let nan = from_bits64(0x7FF8_0000_0000_0000);
+    number(
+        name,
+        tried(
+            &[1.0, 2.0, 3.0, nan],
+            &[1, 0],
+            &[1.0, 0.0, 0.0],
+            identity(),
+            c,
+        ),
+    );
+}
+
+pub(crate) fn order() {
+    before_nine(
+        b"scale and cut 0, coordinate NaN",
+        measured(0.0, 0.0078125, 0.0),
+    );
+    before_nine(
+        b"radius and cut 0, coordinate NaN",
+        measured(0.0009765625, 0.0, 0.0),
+    );
+    before_nine(
+        b"cut 0, coordinate NaN",
+        measured(0.0009765625, 0.0078125, 0.0),
+    );
+    before_nine(
+        b"cut 0.5, coordinate NaN",
+        measured(0.0009765625, 0.0078125, 0.5),
+    );
 }
 
 pub(crate) fn coordinates() {

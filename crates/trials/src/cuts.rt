@@ -1,83 +1,12 @@
-// The plane cut: both sides of its bounds, its place among the checks, the lists after refusal 14, and directions that lie at the cut.
+// The plane cut: the lists after refusal 14, and directions that lie at the cut.
 use crate::LEAST_CUT;
+use crate::runs::ahead;
 use crate::tell::number;
 use crate::tell::say;
 use rounding::from_bits32;
 use rounding::from_bits64;
 use wcs_refine::WcsRefineResult;
 use wcs_refine::wcs_refine;
-
-// The camera looks along (1, 0, 0).
-fn ahead() -> [[f32; 3]; 3] {
-    [[0.0, 1.0, 0.0], [0.0, 0.0, 1.0], [1.0, 0.0, 0.0]]
-}
-
-// ---- the check
-
-// With two spots, of which one coordinate is given, one match and one direction.
-fn checked(scale: f64, radius: f32, cut: f64, x: f64) -> usize {
-    let mut numbers = [0usize; 64];
-    let mut floats = [0.0f64; 64];
-    let mut distances = [0.0f64; 8];
-    let mut indices = [0usize; 16];
-    let mut result = [0usize; 2];
-    let r = wcs_refine(
-        &[1.0, 2.0, 3.0, x],
-        &[1, 0],
-        &[1.0, 0.0, 0.0],
-        ahead(),
-        scale,
-        false,
-        radius,
-        cut,
-        1,
-        1,
-        &mut numbers,
-        &mut floats,
-        &mut distances,
-        &mut indices,
-        &mut result,
-    );
-    r.refusal
-}
-
-fn cut(name: &[u8], bits: u64) {
-    number(
-        name,
-        checked(0.0009765625, 0.0078125, from_bits64(bits), 4.0),
-    );
-}
-
-pub(crate) fn range() {
-    cut(b"cut 1e-12", 0x3D71_9799_812D_EA11);
-    cut(b"cut below 1e-12", 0x3D71_9799_812D_EA10);
-    cut(b"cut above 1e-12", 0x3D71_9799_812D_EA12);
-    cut(b"cut 0.5", 0x3FE0_0000_0000_0000);
-    cut(b"cut above 0.5", 0x3FE0_0000_0000_0001);
-    cut(b"cut below 0.5", 0x3FDF_FFFF_FFFF_FFFF);
-    cut(b"cut 0", 0x0000_0000_0000_0000);
-    cut(b"cut -0", 0x8000_0000_0000_0000);
-    cut(b"cut -1e-12", 0xBD71_9799_812D_EA11);
-    cut(b"cut NaN", 0x7FF8_0000_0000_0000);
-    cut(b"cut infinite", 0x7FF0_0000_0000_0000);
-}
-
-pub(crate) fn order() {
-    let nan = from_bits64(0x7FF8_0000_0000_0000);
-    number(b"a scale and a cut of 0", checked(0.0, 0.0078125, 0.0, 4.0));
-    number(
-        b"a radius and a cut of 0",
-        checked(0.0009765625, from_bits32(0), 0.0, 4.0),
-    );
-    number(
-        b"a cut of 0 and a coordinate NaN",
-        checked(0.0009765625, 0.0078125, 0.0, nan),
-    );
-    number(
-        b"a lawful cut and a coordinate NaN",
-        checked(0.0009765625, 0.0078125, 0.5, nan),
-    );
-}
 
 // ---- the lists afterwards
 

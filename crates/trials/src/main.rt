@@ -1,6 +1,6 @@
 // Tries the refinement call at both sides of its bounds, and tries, premise by premise, the theorem about two calls. One line a trial.
-mod bounds; // bounds.rt: refusals 5 to 11
-mod cuts; // cuts.rt: the plane cut, refusal 14
+mod bounds; // bounds.rt: refusals 5 to 11 and 14
+mod cuts; // cuts.rt: the lists after refusal 14, and directions at the cut
 mod runs; // runs.rt: refusals 12 and 13
 mod two_calls; // two_calls.rt: two calls that differ
 mod tell; // tell.rt: what is written
@@ -13,12 +13,12 @@ fn main() {
     bounds::few();
     bounds::scale();
     bounds::radius();
+    bounds::cut();
+    bounds::order();
     bounds::coordinates();
     bounds::components();
     bounds::named();
     bounds::long();
-    cuts::range();
-    cuts::order();
     cuts::lists_afterwards();
     cuts::grazing();
     runs::turns();

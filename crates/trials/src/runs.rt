@@ -6,7 +6,7 @@ use rounding::from_bits64;
 use wcs_refine::wcs_refine;
 
 // The camera looks along (1, 0, 0).
-fn ahead() -> [[f32; 3]; 3] {
+pub(crate) fn ahead() -> [[f32; 3]; 3] {
     [[0.0, 1.0, 0.0], [0.0, 0.0, 1.0], [1.0, 0.0, 0.0]]
 }
 

@@ -58,7 +58,8 @@ fn refined(
     indices: &mut [usize],
     result: &mut [usize],
 ) -> WcsRefineResult
-    requires { ⌜ refusal (called (now spots) (now matches) (now directions) rotation scale mirror radius cut limit rounds
+    requires { ⌜ refusal (called (now spots) (now matches) (now directions) rotation scale mirror radius cut
+        limit rounds
         (lists (now numbers) (now floats) (now distances) (now indices) (now result))) ≡ 0 ⌝ }
     ensures { λ r.
         ⌜ Answered
