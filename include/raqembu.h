@@ -48,7 +48,8 @@ extern "C" {
  * spots: x, y of each. matches: spot, direction of each starting match. directions: three components of each. rotation: nine entries, by rows.
  * scale: radians per pixel. mirror: the image is mirrored. radius: of matching, in radians. cut: the plane cut. A direction is dropped
  * everywhere in the run where its denominator, its scalar product with the boresight, is at most this; 1e-12, which version 1 had built in, drops
- * those on or behind the projection plane, 0.5 all that lie 60 degrees or more off the boresight. limit: only the first so many spots are matched.
+ * those on or behind the projection plane, 0.5 those of length 1 that lie 60 degrees or more off the boresight.
+ * limit: only the first so many spots are matched.
  * numbers, floats: working lists. distances, indices: room for candidate pairs. result: takes the matches, spot then direction.
  * counts: 4 places for matches, rounds, fit passes, queries. values: 18 places for theta, RA, Dec, scale; the matrix by rows; the error (rms, in
  * radians); the covariance of theta and the two offsets of the boresight, by rows.
