@@ -5,13 +5,14 @@
 // the text.
 #![tactic(auto)]
 
+ghost use Rattle.std.specs.Prelude.{◌≤◌, length};
+
 mod parts; // parts.rt: the parts of a file
 mod tell; // tell.rt: what is written
 mod trial; // trial.rt: one record
 
 use response::record_room;
-use std::fs::File;
-use streams::read_full;
+use streams::read_file;
 use tell::say;
 
 fn main(rt: HostRuntime) {
@@ -48,22 +49,16 @@ fn each_file(rt: &HostRuntime, names: &[u8]) {
 fn run_file(rt: &HostRuntime, path: &[u8]) {
     say(rt, path);
     say(rt, b": ");
-    match std::str::from_utf8(path) {
-        Ok(name) => run_named(rt, name),
-        Err(_) => say(rt, b"not to be opened\n"),
-    }
-}
-
-fn run_named(rt: &HostRuntime, name: &str) {
-    match std::fs::open(rt, name) {
-        Ok(mut file) => run_open(rt, &mut file),
-        Err(_) => say(rt, b"not to be opened\n"),
-    }
-}
-
-fn run_open(rt: &HostRuntime, file: &mut File) {
     let mut room = [0u8; 65536];
-    let n = read_full(file, &mut room);
+    match read_file(rt, path, &mut room) {
+        Some(n) => run_read(rt, &room, n),
+        None => say(rt, b"not to be opened\n"),
+    }
+}
+
+fn run_read(rt: &HostRuntime, room: &[u8], n: usize)
+    requires { n ≤ length room.now }
+{
     if n == room.len() {
         say(rt, b"too long\n");
         return;

@@ -4,6 +4,8 @@
 // a line that starts with # is a remark. Each file's first lines say how it was made.
 #![tactic(auto)]
 
+ghost use Rattle.std.specs.Prelude.{◌≤◌, length};
+
 mod fitting;
 mod geometry;
 mod line;
@@ -15,8 +17,7 @@ mod sampling;
 mod scalar;
 mod word;
 
-use std::fs::File;
-use streams::read_full;
+use streams::read_file;
 
 fn main(rt: HostRuntime) {
     each_file(
@@ -62,27 +63,21 @@ pub(crate) fn say(rt: &HostRuntime, text: &[u8]) {
 fn run_file(rt: &HostRuntime, path: &[u8]) {
     say(rt, path);
     say(rt, b": ");
-    match std::str::from_utf8(path) {
-        Ok(name) => run_named(rt, name),
-        Err(_) => say(rt, b"not to be opened\n"),
+    let mut room = [0u8; 65536];
+    match read_file(rt, path, &mut room) {
+        Some(n) => run_read(rt, &room, n),
+        None => say(rt, b"not to be opened\n"),
     }
 }
 
-fn run_named(rt: &HostRuntime, name: &str) {
-    match std::fs::open(rt, name) {
-        Ok(mut file) => run_open(rt, &mut file),
-        Err(_) => say(rt, b"not to be opened\n"),
-    }
-}
-
-fn run_open(rt: &HostRuntime, file: &mut File) {
-    let mut text = [0u8; 65536];
-    let n = read_full(file, &mut text);
-    if n == text.len() {
+fn run_read(rt: &HostRuntime, room: &[u8], n: usize)
+    requires { n ≤ length room.now }
+{
+    if n == room.len() {
         say(rt, b"too long\n");
         return;
     }
-    run_lines(rt, &text[..n]);
+    run_lines(rt, &room[..n]);
 }
 
 // Every line of the text, with room for the numbers of one.
