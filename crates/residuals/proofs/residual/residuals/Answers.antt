@@ -5,7 +5,6 @@ use native.Mathlib.Omega.{arith}
 use lib.ListN.{length}
 use Rattle.fit.specs.Rows.{viewAt, rows}
 use Rattle.residuals.proofs.Distances.{residuals-next, residuals-none, written_next, written-done, counted_next, counted-done}
--- Assumes nothing.
 use borrow.Author.Rules.{rules}
 use Rattle.residuals.proofs.residual.residuals.Goals as goal
 

@@ -4,7 +4,6 @@ use Prim.Native.Nat.{◌+◌, ◌-◌, ◌≤◌}
 use lib.ListN.{length, take, drop}
 use Rattle.residuals.specs.Residual.{residuals, over, inFront}
 use Rattle.fit.specs.Rows.{viewAt, rows, rowsFrom}
--- Assumes nothing.
 use Rattle.residuals.proofs.residual.residuals.Given as goal
 
 abbrev pub invariant-loop-i : goal.invariant-loop-i
