@@ -5,8 +5,6 @@
 // the text.
 #![tactic(auto)]
 
-ghost use Rattle.std.specs.Prelude.{◌≤◌, length};
-
 mod parts; // parts.rt: the parts of a file
 mod tell; // tell.rt: what is written
 mod trial; // trial.rt: one record
@@ -18,52 +16,39 @@ use tell::say;
 fn main(rt: HostRuntime) {
     each_file(
         &rt,
-        b"records-01.bin records-02.bin records-03.bin records-04.bin records-05.bin records-06.bin",
+        "records-01.bin records-02.bin records-03.bin records-04.bin records-05.bin records-06.bin",
     );
     each_file(
         &rt,
-        b"records-07.bin records-08.bin records-09.bin records-10.bin records-11.bin records-12.bin",
+        "records-07.bin records-08.bin records-09.bin records-10.bin records-11.bin records-12.bin",
     );
     each_file(
         &rt,
-        b"records-13.bin records-14.bin records-15.bin records-16.bin records-17.bin records-18.bin",
+        "records-13.bin records-14.bin records-15.bin records-16.bin records-17.bin records-18.bin",
     );
     each_file(
         &rt,
-        b"records-19.bin records-20.bin records-21.bin records-22.bin records-23.bin",
+        "records-19.bin records-20.bin records-21.bin records-22.bin records-23.bin",
     );
     too_long(&rt);
 }
 
 // The files whose names these are, with spaces between them.
-fn each_file(rt: &HostRuntime, names: &[u8]) {
-    let mut from = 0;
-    while from < names.len() {
-        let to = parts::word_end(names, from);
-        run_file(rt, &names[from..to]);
-        from = to + 1;
+fn each_file(rt: &HostRuntime, names: &str) {
+    for name in names.split(' ') {
+        run_file(rt, name);
     }
 }
 
-// One file, whole: it has to be shorter than the room for it.
-fn run_file(rt: &HostRuntime, path: &[u8]) {
-    say(rt, path);
-    say(rt, b": ");
+fn run_file(rt: &HostRuntime, name: &str) {
+    let _ = print!(rt; "{name}: ");
     let mut room = [0u8; 65536];
-    match read_file(rt, path, &mut room) {
-        Some(n) => run_read(rt, &room, n),
-        None => say(rt, b"not to be opened\n"),
+    match read_file(rt, name, &mut room) {
+        Ok(n) => each_entry(rt, &room[..n]),
+        Err(why) => {
+            let _ = println!(rt; "{why}");
+        }
     }
-}
-
-fn run_read(rt: &HostRuntime, room: &[u8], n: usize)
-    requires { n ≤ length room.now }
-{
-    if n == room.len() {
-        say(rt, b"too long\n");
-        return;
-    }
-    each_entry(rt, &room[..n]);
 }
 
 fn each_entry(rt: &HostRuntime, bytes: &[u8]) {

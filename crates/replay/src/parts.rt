@@ -1,23 +1,6 @@
 // The parts of a file.
 ghost use Rattle.std.specs.Prelude.{◌≡◌, ◌+◌, ◌<◌, ◌≤◌, min, length};
 
-const SPACE: u8 = 32;
-
-// Where a space first stands from `from` on, or the text's end.
-pub(crate) fn word_end(text: &[u8], from: usize) -> usize
-    requires { from ≤ length text.now }
-    ensures { (from ≤ result) × (result ≤ length text.now) }
-{
-    let mut i = from;
-    while i < text.len() {
-        if text[i] == SPACE {
-            return i;
-        }
-        i += 1;
-    }
-    i
-}
-
 // So many bytes on, or the end.
 pub(crate) fn past(bytes: &[u8], at: usize, count: usize) -> usize
     requires { at ≤ length bytes.now }

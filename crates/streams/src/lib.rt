@@ -1,27 +1,28 @@
-// What the programs read: a room is filled from a reader or a file. No clause can say which bytes come; how many there are is at most the room.
+// What the programs read: rooms filled from a reader or a file. No clause can say which bytes come; how many there are is at most the room.
 #![tactic(auto)]
 
-ghost use Rattle.std.specs.Prelude.{◌≤◌, length, IfSome};
+ghost use Rattle.std.specs.Prelude.{◌≤◌, ◌<◌, length, IfOk};
 
 use std::io::Read;
 
-// Reads a file of this name into the room, or nothing where none can be opened.
-pub fn read_file(rt: &HostRuntime, name: &[u8], room: &mut [u8]) -> Option<usize>
-    ensures { IfSome result (λ n. n ≤ length room.new) }
+// Reads a file into the room, whole: it has to be shorter than the room, since one that fills it may go on. Answers how many bytes it has, or why it is
+// not to be had.
+pub fn read_file(rt: &HostRuntime, name: &str, room: &mut [u8]) -> Result<usize, &'static str>
+    ensures { IfOk result (λ n. n < length room.new) }
 {
-    match std::str::from_utf8(name) {
-        Ok(path) => read_path(rt, path, room),
-        Err(_) => None,
+    match std::fs::open(rt, name) {
+        Ok(mut file) => shorter(read_full(&mut file, room), room),
+        Err(_) => Err("not to be opened"),
     }
 }
 
-fn read_path(rt: &HostRuntime, path: &str, room: &mut [u8]) -> Option<usize>
-    ensures { IfSome result (λ n. n ≤ length room.new) }
+fn shorter(n: usize, room: &[u8]) -> Result<usize, &'static str>
+    ensures { IfOk result (λ k. k < length room.now) }
 {
-    match std::fs::open(rt, path) {
-        Ok(mut file) => Some(read_full(&mut file, room)),
-        Err(_) => None,
+    if n < room.len() {
+        return Ok(n);
     }
+    Err("too long")
 }
 
 // Reads until the room is full, the input ends or a read fails. Answers how many bytes stand at the room's start.

@@ -4,8 +4,6 @@
 // a line that starts with # is a remark. Each file's first lines say how it was made.
 #![tactic(auto)]
 
-ghost use Rattle.std.specs.Prelude.{◌≤◌, length};
-
 mod fitting;
 mod geometry;
 mod line;
@@ -22,36 +20,30 @@ use streams::read_file;
 fn main(rt: HostRuntime) {
     each_file(
         &rt,
-        b"sqrt64.txt sqrt32.txt narrow.txt widen.txt methods.txt",
+        "sqrt64.txt sqrt32.txt narrow.txt widen.txt methods.txt",
+    );
+    each_file(&rt, "sin.txt cos.txt cos32.txt atan.txt asin.txt atan2.txt");
+    each_file(&rt, "medians.txt matches.txt capacity.txt");
+    each_file(
+        &rt,
+        "tan_project.txt inverse_tan_project.txt rotations.txt wcs_to_rotation.txt",
+    );
+    each_file(&rt, "vectors.txt solve_3x3.txt covariance.txt");
+    each_file(
+        &rt,
+        "accumulate.txt fits.txt normal_matrix.txt residuals.txt clips.txt",
     );
     each_file(
         &rt,
-        b"sin.txt cos.txt cos32.txt atan.txt asin.txt atan2.txt",
+        "grazing.txt grazing_residuals.txt weighted_sums.txt weighted_fits.txt",
     );
-    each_file(&rt, b"medians.txt matches.txt capacity.txt");
-    each_file(
-        &rt,
-        b"tan_project.txt inverse_tan_project.txt rotations.txt wcs_to_rotation.txt",
-    );
-    each_file(&rt, b"vectors.txt solve_3x3.txt covariance.txt");
-    each_file(
-        &rt,
-        b"accumulate.txt fits.txt normal_matrix.txt residuals.txt clips.txt",
-    );
-    each_file(
-        &rt,
-        b"grazing.txt grazing_residuals.txt weighted_sums.txt weighted_fits.txt",
-    );
-    each_file(&rt, b"axis.txt query.txt");
+    each_file(&rt, "axis.txt query.txt");
 }
 
 // The files whose names these are, with spaces between them.
-fn each_file(rt: &HostRuntime, names: &[u8]) {
-    let mut from = 0;
-    while from < names.len() {
-        let to = word::end(names, from, 32);
-        run_file(rt, &names[from..to]);
-        from = to + 1;
+fn each_file(rt: &HostRuntime, names: &str) {
+    for name in names.split(' ') {
+        run_file(rt, name);
     }
 }
 
@@ -59,25 +51,15 @@ pub(crate) fn say(rt: &HostRuntime, text: &[u8]) {
     let _ = rt.write_all(text);
 }
 
-// One file, whole: it has to be shorter than the room for it.
-fn run_file(rt: &HostRuntime, path: &[u8]) {
-    say(rt, path);
-    say(rt, b": ");
+fn run_file(rt: &HostRuntime, name: &str) {
+    let _ = print!(rt; "{name}: ");
     let mut room = [0u8; 65536];
-    match read_file(rt, path, &mut room) {
-        Some(n) => run_read(rt, &room, n),
-        None => say(rt, b"not to be opened\n"),
+    match read_file(rt, name, &mut room) {
+        Ok(n) => run_lines(rt, &room[..n]),
+        Err(why) => {
+            let _ = println!(rt; "{why}");
+        }
     }
-}
-
-fn run_read(rt: &HostRuntime, room: &[u8], n: usize)
-    requires { n ≤ length room.now }
-{
-    if n == room.len() {
-        say(rt, b"too long\n");
-        return;
-    }
-    run_lines(rt, &room[..n]);
 }
 
 // Every line of the text, with room for the numbers of one.
