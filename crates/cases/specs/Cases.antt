@@ -19,19 +19,19 @@ use Rattle.record.specs.Number.{written, number}
 use Rattle.record.specs.declared.Numbered.TheVariants.{Got, Wrong}
 
 -- Whole numbers as floats.
-abbrev f1 : Float
+abbrev pub f1 : Float
 f1 = one64
 
-abbrev f2 : Float
+abbrev pub f2 : Float
 f2 = f64 0x4000000000000000
 
-abbrev f3 : Float
+abbrev pub f3 : Float
 f3 = f64 0x4008000000000000
 
-abbrev f4 : Float
+abbrev pub f4 : Float
 f4 = f64 0x4010000000000000
 
-abbrev f5 : Float
+abbrev pub f5 : Float
 f5 = f64 0x4014000000000000
 
 abbrev f6 : Float

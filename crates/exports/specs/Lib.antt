@@ -2,3 +2,4 @@ pub mod Parts
 pub mod Refined
 pub mod Taken
 pub mod Unseen
+pub mod Matches

@@ -5,3 +5,11 @@ pub mod Merging
 pub mod Whole
 pub mod Unique
 pub mod Theorems
+pub mod Members
+pub mod Picking
+pub mod Sharing
+pub mod Nearness
+pub mod Precedence
+pub mod Places
+pub mod Meaning
+pub mod Calls

@@ -3,3 +3,5 @@ pub mod Greedy
 pub mod Answer
 pub mod Ordered
 pub mod Layout
+pub mod Meaning
+pub mod Meant

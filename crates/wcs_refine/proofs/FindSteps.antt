@@ -11,7 +11,8 @@ use Rattle.matching.specs.declared.Matched.TheVariants.{Matches, TooMany}
 use Rattle.wcs_refine.specs.Listing.{renamedBy}
 use Rattle.wcs_refine.specs.Comparing.{NewAt}
 use Rattle.wcs_refine.proofs.FewMatches.{few-matches}
-use Rattle.wcs_refine.proofs.NewMatches.{flat-many, renamed-many}
+use Rattle.matching.proofs.Calls.{flat-many}
+use Rattle.wcs_refine.proofs.NewMatches.{renamed-many}
 
 -- ---- parts of lists
 

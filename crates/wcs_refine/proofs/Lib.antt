@@ -28,3 +28,5 @@ pub mod TableSteps
 pub mod NewMatches
 pub mod FindSteps
 pub mod AssociateSteps
+pub mod RoundPlaces
+pub mod RoundMeaning

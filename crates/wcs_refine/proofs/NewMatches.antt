@@ -9,7 +9,8 @@ use Rattle.wcs_refine.specs.Listing.{renamedBy}
 use Rattle.wcs_refine.specs.Comparing.{names, Lone}
 use Rattle.wcs_refine.proofs.Along.{All}
 use Rattle.wcs_refine.proofs.Remaining.{matches-all}
-use Rattle.wcs_refine.proofs.SameLinks.{never, or-says, or_left, or_right}
+use Rattle.std.proofs.lemmas.Bool.{or_cases, or_left, or_right}
+use Rattle.wcs_refine.proofs.SameLinks.{never}
 
 -- whether a match has a spot, and that each spot has one match
 unfoldable has : ℕ → List Match → Bool
@@ -25,7 +26,7 @@ unfolding has clashes
 clash p [] h = h
 clash p (m ∷ ms) h =
     ⊎_elim (λ u. rw u) (λ u. or_right (eqb p.spot m.spot || eqb p.prediction m.prediction) (clashes p ms) (clash p ms u))
-    (or-says (eqb p.spot m.spot) (has p.spot ms) h)
+    (or_cases (eqb p.spot m.spot) (has p.spot ms) h)
 
 -- a spot that is taken is not taken again
 fresh-past : (s : ℕ) (taken : List Match) (p : Pair) (ps : List Pair) → has s taken ≡ true → has s (assigned taken ps) ≡ false
@@ -80,11 +81,6 @@ lone-matches spots limit points r2 ids =
     (apart (merged notAfter (pairs spots limit points r2)) [])
 
 -- ---- how many numbers
-
-pub flat-many : (ms : List Match) → length (flat ms) ≡ 2 * length ms
-unfolding flat
-flat-many [] = refl
-flat-many (m ∷ ms) = omega (arith, flat-many ms)
 
 pub renamed-many : (ids : List ℕ) (ms : List Match) → length (renamedBy ids (flat ms)) ≡ 2 * length ms
 unfolding renamedBy flat

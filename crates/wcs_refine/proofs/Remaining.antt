@@ -89,7 +89,7 @@ module _ (P R : ℕ → Type 0) where
       assigned-all [] (merged notAfter l) (merged-all OfPair notAfter l (pairsFrom-all r2 points ps 0 (spotsWithin points limit) (λ n l. h n (omega arith)) g))
 
 -- ---- predictions and matches
-laid-length : (qs : List Prediction) → length (laid qs) / 2 ≡ length qs
+pub laid-length : (qs : List Prediction) → length (laid qs) / 2 ≡ length qs
 unfolding laid
 laid-length [] = refl
 laid-length (q ∷ qs) = omega (arith, laid-length qs)

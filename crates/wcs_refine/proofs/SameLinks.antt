@@ -1,5 +1,6 @@
 -- Two lists of links that are the same once sorted: the links of the one can be taken from the other, one by one, and none is left. Assumes nothing.
-use Rattle.std.proofs.Common.{◌≡◌, ℕ, suc, ◌<◌, ◌≤◌, Bool, true, false, cond, ◌&&◌, ◌||◌, eqb, ltb, ◌⊎◌, List, [], ◌∷◌, length, sym, refl, ap, ◌∙◌, inl, inr, ⊎_elim, arith, ltb-false, ltb-true, lt-ltb, eq-eqb, eqb-true, le-leb, leb-true}
+use Rattle.std.proofs.Common.{◌≡◌, ℕ, suc, ◌<◌, ◌≤◌, Bool, true, false, cond, ◌||◌, eqb, ltb, ◌⊎◌, List, [], ◌∷◌, length, sym, refl, ap, ◌∙◌, inl, inr, ⊎_elim, arith, ltb-false, ltb-true, lt-ltb, eq-eqb, eqb-true, le-leb, leb-true}
+use Rattle.std.proofs.lemmas.Bool.{or_cases, or_left, or_right, and_parts}
 use Rattle.wcs_refine.specs.Associate.{Link, links, linkLe, insertLink, sortedLinks, sameLinks, sameMatches}
 use Rattle.wcs_refine.specs.Comparing.{sameLink, among}
 use Rattle.wcs_refine.proofs.Along.{either}
@@ -9,29 +10,10 @@ use Rattle.wcs_refine.proofs.Along.{either}
 pub never : {A : Type 0} {b : Bool} → b ≡ true → b ≡ false → A
 never p q = let z : ◌≡◌ {A = ℕ} 0 1 = cc in absurd (omega arith)
 
-pub or-says : (a b : Bool) → a || b ≡ true → (a ≡ true) ⊎ (b ≡ true)
-or-says true b h = inl refl
-or-says false b h = inr h
-
-pub or_right : (a b : Bool) → b ≡ true → a || b ≡ true
-or_right true b h = refl
-or_right false b h = h
-
-pub or_left : (a b : Bool) → a ≡ true → a || b ≡ true
-or_left a b h = rw h
-
-pub or-neither : (a b : Bool) → a || b ≡ false → (a ≡ false) × (b ≡ false)
-or-neither true b h = never refl h
-or-neither false b h = (refl, h)
-
 or_swap : (a b c : Bool) → a || (b || c) ≡ b || (a || c)
 or_swap true true c = refl
 or_swap true false c = refl
 or_swap false b c = refl
-
-pub and-says : (a b : Bool) → a && b ≡ true → (a ≡ true) × (b ≡ true)
-and-says true b h = (refl, h)
-and-says false b h = never h refl
 
 both_ways : (a b : Bool) → (a ≡ true → b ≡ true) → (b ≡ true → a ≡ true) → a ≡ b
 both_ways true b f g = sym (f refl)
@@ -45,7 +27,7 @@ same-link p q = cc
 
 pub same-says : (a b : Link) → sameLink a b ≡ true → a ≡ b
 same-says a b h =
-    let r = and-says (eqb a.spot b.spot) _ h in
+    let r = and_parts (eqb a.spot b.spot) _ h in
     same-link (eqb-true a.spot b.spot r.0) (eqb-true a.direction b.direction r.1)
 
 pub same_self : (a : Link) → sameLink a a ≡ true
@@ -60,8 +42,8 @@ le-says : (a b : Link) → linkLe a b ≡ true → Before a b
 unfolding linkLe
 le-says a b h =
     ⊎_elim (λ q. inl (ltb-true a.spot b.spot q))
-    (λ q. let r = and-says (eqb a.spot b.spot) _ q in inr (eqb-true a.spot b.spot r.0, leb-true a.direction b.direction r.1))
-    (or-says (ltb a.spot b.spot) _ h)
+    (λ q. let r = and_parts (eqb a.spot b.spot) _ q in inr (eqb-true a.spot b.spot r.0, leb-true a.direction b.direction r.1))
+    (or_cases (ltb a.spot b.spot) _ h)
 
 le-shows : (a b : Link) → Before a b → linkLe a b ≡ true
 unfolding linkLe
@@ -241,7 +223,7 @@ equal-says [] [] h = refl
 equal-says [] (b ∷ l) h = never h refl
 equal-says (a ∷ k) [] h = never h refl
 equal-says (a ∷ k) (b ∷ l) h =
-    let r = and-says (sameLink a b) _ h in
+    let r = and_parts (sameLink a b) _ h in
     let e : a ≡ b = same-says a b r.0 in
     let f : k ≡ l = equal-says k l r.1 in
     cc

@@ -5,7 +5,8 @@ use lib.Seq.{slice, slice-cons, slice_empty, length-slice, take-set-le}
 use Rattle.wcs_refine.specs.Associate.{Link, links, sameMatches}
 use Rattle.wcs_refine.specs.Comparing.{linkOf, sameLink, among, names, Lone, numberedDirection, tells, Kept, Few, Laid, Comparable, Marked}
 use Rattle.wcs_refine.proofs.Along.{either}
-use Rattle.wcs_refine.proofs.SameLinks.{never, below_or, and-says, or-says, or_left, or_right, or-neither, same-says, without, without-first, without-later, among_later, takes, takes_one, takes_none, takes_same, one_fewer, differ, none_left}
+use Rattle.std.proofs.lemmas.Bool.{and_parts, or_cases, or_left, or_parts, or_right}
+use Rattle.wcs_refine.proofs.SameLinks.{never, below_or, same-says, without, without-first, without-later, among_later, takes, takes_one, takes_none, takes_same, one_fewer, differ, none_left}
 
 -- ---- all but the table is kept
 
@@ -125,7 +126,7 @@ unnamed : (y : Link) (l : List Link) → names y.spot l ≡ false → among y l 
 unfolding names among
 unnamed y [] h = refl
 unnamed y (a ∷ l) h =
-    let r = or-neither (eqb y.spot a.spot) (names y.spot l) h in
+    let r = or_parts (eqb y.spot a.spot) (names y.spot l) h in
     rw r.0 (unnamed y l r.1)
 
 named : (x : Link) (l : List Link) → among x l ≡ true → names x.spot l ≡ true
@@ -133,15 +134,15 @@ unfolding names among
 named x [] h = h
 named x (a ∷ l) h =
     ⊎_elim
-    (λ u. or_left (eqb x.spot a.spot) (names x.spot l) (and-says (eqb x.spot a.spot) (eqb x.direction a.direction) u).0)
+    (λ u. or_left (eqb x.spot a.spot) (names x.spot l) (and_parts (eqb x.spot a.spot) (eqb x.direction a.direction) u).0)
     (λ u. or_right (eqb x.spot a.spot) (names x.spot l) (named x l u))
-    (or-says (sameLink x a) (among x l) h)
+    (or_cases (sameLink x a) (among x l) h)
 
 named-below : (n s : ℕ) (l : List Link) → Lone n l → names s l ≡ true → s < n
 unfolding names
 named-below n s [] h g = never g refl
 named-below n s (a ∷ l) h g =
-    ⊎_elim (λ u. omega (arith, eqb-true s a.spot u, h.0)) (λ u. named-below n s l h.2 u) (or-says (eqb s a.spot) (names s l) g)
+    ⊎_elim (λ u. omega (arith, eqb-true s a.spot u, h.0)) (λ u. named-below n s l h.2 u) (or_cases (eqb s a.spot) (names s l) g)
 
 -- ---- one link taken out
 
@@ -150,7 +151,7 @@ module _ (x : Link) where
   unfolding names without
   without-unnamed s [] h = refl
   without-unnamed s (a ∷ l) h =
-      let r = or-neither (eqb s a.spot) (names s l) h in
+      let r = or_parts (eqb s a.spot) (names s l) h in
       either (λ (z : List Link). names s z ≡ false) (sameLink x a) l (a ∷ without x l) r.1 (rw r.0 (without-unnamed s l r.1))
 
   without-lone : (n : ℕ) (l : List Link) → Lone n l → Lone n (without x l)
@@ -321,7 +322,7 @@ module _ (base n start t : ℕ) (m o : List ℕ) where
 
       in_table : x.spot < n
       unfolding tells
-      in_table = ltb-true x.spot n (and-says (ltb x.spot n) _ h).0
+      in_table = ltb-true x.spot n (and_parts (ltb x.spot n) _ h).0
 
       told-after : (y : Link) (b : Bool) → eqb y.spot x.spot ≡ b → tells base n start struck o y ≡ among y (without x w.rem)
       told-after y true e =

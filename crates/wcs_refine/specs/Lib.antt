@@ -12,3 +12,4 @@ pub mod Sighting
 pub mod Stepping
 pub mod Ending
 pub mod Comparing
+pub mod Meaning

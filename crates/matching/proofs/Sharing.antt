@@ -1,0 +1,84 @@
+-- Pairs that share a spot or a prediction, and the matcher's list as what is picked of the pairs in order (`Picking.antt`). Assumes nothing.
+use Rattle.std.proofs.Common.{◌≡◌, Bool, true, false, cond, ◌||◌, List, [], ◌∷◌, inl, inr, ⊎_elim, refl, sym, ap, ap₂, ◌∙◌}
+use Rattle.std.proofs.lemmas.Bool.{or_cases, or_left, or_right}
+use borrow.Author.Tests.{eqb-true, eq-eqb}
+use lib.Dec.{eqb}
+use Rattle.pairs.specs.Pairs.{Pair}
+use Rattle.pairs.specs.Elements.{All, none, more}
+use Rattle.pairs.proofs.Elements.{all_head, all_tail}
+use Rattle.matching.specs.Greedy.{Match, clashes, assigned}
+use Rattle.matching.specs.Meaning.{Share}
+use Rattle.matching.proofs.Members.{Has}
+use Rattle.matching.proofs.Picking.{both-ways, clash, picked}
+
+-- ---- the test
+
+pub share : Match → Match → Bool
+share m n = eqb m.spot n.spot || eqb m.prediction n.prediction
+
+pub share-self : (m : Match) → share m m ≡ true
+unfolding share
+share-self m = or_left _ _ (eq-eqb m.spot m.spot refl)
+
+pub shares : (m n : Match) → Share m n → share m n ≡ true
+unfolding share
+shares m n (inl e) = or_left _ _ (eq-eqb m.spot n.spot e)
+shares m n (inr e) = or_right (eqb m.spot n.spot) _ (eq-eqb m.prediction n.prediction e)
+
+pub shared : (m n : Match) → share m n ≡ true → Share m n
+unfolding share
+shared m n h =
+    ⊎_elim (λ e. inl (eqb-true m.spot n.spot e)) (λ e. inr (eqb-true m.prediction n.prediction e)) (or_cases (eqb m.spot n.spot) _ h)
+
+pub turned-round : (m n : Match) → Share m n → Share n m
+turned-round m n (inl e) = inl (sym e)
+turned-round m n (inr e) = inr (sym e)
+
+-- nothing clashes where nothing was taken
+pub none-free : (m : Match) → clash share m [] ≡ false
+unfolding clash
+none-free m = refl
+
+pub none-taken : (m : Match) → clash share m [] ≡ true → ⊥
+none-taken m c = both-ways c (none-free m)
+
+-- ---- pairs as matches
+
+unfoldable pub matchOf : Pair → Match
+matchOf p = record { spot = p.spot; prediction = p.prediction }
+
+unfoldable pub mapped : List Pair → List Match
+mapped [] = []
+mapped (p ∷ ps) = matchOf p ∷ mapped ps
+
+pub mapped-has : (ps : List Pair) (p : Pair) → Has p ps → Has (matchOf p) (mapped ps)
+unfolding Has mapped
+mapped-has [] p h = h
+mapped-has (q ∷ ps) p (inl e) = inl (ap matchOf e)
+mapped-has (q ∷ ps) p (inr h) = inr (mapped-has ps p h)
+
+-- what holds of all pairs holds of the matches
+pub mapped-all : (P : Pair → Type 0) (Q : Match → Type 0) → ((p : Pair) → P p → Q (matchOf p)) → (ps : List Pair) → All P ps → All Q (mapped ps)
+unfolding mapped
+mapped-all P Q f [] h = none
+mapped-all P Q f (p ∷ ps) h = more (matchOf p) (mapped ps) (f p (all_head P h)) (mapped-all P Q f ps (all_tail P h))
+
+-- ---- what is assigned is what is picked
+
+clashes-clash : (p : Pair) (ms : List Match) → clashes p ms ≡ clash share (matchOf p) ms
+unfolding clashes clash share matchOf
+clashes-clash p [] = refl
+clashes-clash p (m ∷ ms) =
+    ap (λ (b : Bool). eqb p.spot m.spot || eqb p.prediction m.prediction || b) (clashes-clash p ms)
+    ∙ bracket (eqb p.spot m.spot) (eqb p.prediction m.prediction) _
+  where
+    bracket : (a b c : Bool) → a || b || c ≡ (a || b) || c
+    bracket true b c = refl
+    bracket false b c = refl
+
+pub assigned-picked : (ps : List Pair) (taken : List Match) → assigned taken ps ≡ picked share taken (mapped ps)
+unfolding assigned picked mapped matchOf
+assigned-picked [] taken = refl
+assigned-picked (p ∷ ps) taken =
+    ap₂ (λ (a b : List Match). cond (clashes p taken) a (matchOf p ∷ b)) (assigned-picked ps taken) (assigned-picked ps (matchOf p ∷ taken))
+    ∙ ap (λ (b : Bool). cond b (picked share taken (mapped ps)) (matchOf p ∷ picked share (matchOf p ∷ taken) (mapped ps))) (clashes-clash p taken)

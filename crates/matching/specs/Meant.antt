@@ -1,0 +1,30 @@
+-- That the matcher's list is the one of `Meaning.antt`, and that its calls hand back that list; `proofs/Meaning.antt` and `proofs/Calls.antt`
+-- prove each claim under the same name in small letters. Definitions only. Assumes nothing.
+use Rattle.std.specs.Prelude.{◌≡◌, ℕ, ◌+◌, ◌*◌, List, length, take, drop, Float}
+use Rattle.pairs.specs.Strips.{stripRoom}
+use Rattle.matching.specs.declared.Matched.TheVariants.{Matches}
+use Rattle.matching.specs.Greedy.{Match, matchesOf, flat, marks, greedyUniqueMatches, greedyByStrips}
+use Rattle.matching.specs.Meaning.{Frame, TheMatches}
+
+-- 02, CR 9: "Prove of the matcher's list in each round ..".
+abbrev pub MatcherMeant : Type 0
+MatcherMeant = (f : Frame) → TheMatches f (matchesOf f.points f.limit f.predicted f.radius-sq)
+
+-- `work` holds n matches from a place on: they are the list, laid flat.
+pub record HandedBack (f : Frame) (n from : ℕ) (work : List ℕ) : Type 0 where
+  pub list : List Match
+  pub the : TheMatches f list
+  pub long : length list ≡ n
+  pub stands : take (2 * n) (drop from work) ≡ flat list
+
+-- "Save where 13 is given", or `work` is too short: a call that answers n matches leaves that list behind its marks,
+abbrev pub CallMeant : Type 0
+CallMeant = (f : Frame) (distances : List Float) (indices work : List ℕ) (n : ℕ) →
+    let o = greedyUniqueMatches f.points f.limit f.predicted f.radius-sq distances indices work in
+    o.answer ≡ Matches n → HandedBack f n (marks f.points f.limit f.predicted) o.work
+
+-- and so does the call with room for strips, which stands in front of the marks.
+abbrev pub CallByStripsMeant : Type 0
+CallByStripsMeant = (f : Frame) (distances : List Float) (indices work : List ℕ) (n : ℕ) →
+    let o = greedyByStrips f.points f.limit f.predicted f.radius-sq distances indices work in
+    o.answer ≡ Matches n → HandedBack f n (stripRoom f.points f.limit + marks f.points f.limit f.predicted) o.work

@@ -1,0 +1,82 @@
+-- What the matches of a round mean: the one list of crate `matching`'s `Meaning.antt`, in every round. Definitions only; the proof is
+-- `proofs/RoundMeaning.antt`. Assumes nothing.
+use Rattle.std.specs.Prelude.{◌≡◌, ℕ, ◌/◌, ◌<◌, true, cond, ◌⊎◌, List, length, slice_index_or, Float}
+use Rattle.rounding.specs.Arith.{◌⊗◌}
+use Rattle.pairs.specs.Pairs.{pointAt, pairs, spotsWithin}
+use Rattle.pairs.specs.Candidates.{point}
+use Rattle.matching.specs.Greedy.{Match}
+use Rattle.matching.specs.Meaning.{Frame, TheMatches}
+use Rattle.project.specs.Camera.{cameraRows}
+use Rattle.panel.specs.Spots.{spotAt}
+use Rattle.panel.specs.Points.{withinLimit, pointsOf}
+use Rattle.fit.specs.Rows.{rows, viewOf}
+use Rattle.residuals.specs.Residual.{residuals}
+use Rattle.entry.specs.Fixed.{Fixed}
+use Rattle.passes.specs.Fit.{Passes, fitPasses}
+use Rattle.query.specs.Query.{Cache, empty, full, query, drifted, Prediction, predictions}
+use Rattle.wcs_refine.specs.Clip.{Statistics, statistics, clipped}
+use Rattle.wcs_refine.specs.Associate.{adaptivePx, laid, directionOf, renamed}
+use Rattle.wcs_refine.specs.Round.{State, Next, refuse, settled, mostPasses, round}
+
+-- A round: what is fixed for its call, the spots and directions lent, and the state that it starts from, whatever that is.
+module _ (k : Fixed) (spots directions : List Float) (s : State) where
+  -- Phase A: the fit passes, with the pose that they leave;
+  abbrev pub fit : Passes
+  fit = fitPasses mostPasses k.cut (rows spots directions s.matches) s.pose
+
+  -- then the residuals of its matches at that pose, with their statistics, by which the radius goes.
+  abbrev pub measured : List Float
+  measured = residuals (viewOf fit.pose k.cut) (rows spots directions s.matches)
+
+  abbrev pub spread : Statistics
+  spread = statistics measured
+
+  abbrev pub radius : Float
+  radius = adaptivePx k spread
+
+  -- The directions that are listed: the cached ones, unless nothing is cached or the pose has drifted from where they were queried; else those of a query
+  -- at the pose.
+  abbrev pub listedBy : Cache → List ℕ
+  listedBy empty = query k directions fit.pose
+  listedBy (full b theta listed) = cond (drifted k fit.pose b theta) (query k directions fit.pose) listed
+
+  -- Where they fall on the panel.
+  abbrev pub predicted : List Prediction
+  predicted = predictions k directions (cameraRows fit.pose.theta fit.pose.ra fit.pose.dec) (listedBy s.cache)
+
+  -- What the matcher is given in the round.
+  abbrev pub frame : Frame
+  frame = record {
+    points = pointsOf spots k.limit;
+    limit = k.limit;
+    predicted = laid predicted;
+    radius-sq = radius ⊗ radius;
+  }
+
+  -- Its places: a spot's is its number among those lent, and a prediction's its place in `predicted`; j is named by `directionOf predicted j`.
+  pub record Places : Type 0 where
+    pub spots-many : spotsWithin frame.points frame.limit ≡ withinLimit spots k.limit
+    pub spot : (i : ℕ) → i < withinLimit spots k.limit → pointAt frame.points i ≡ point (spotAt spots i).px (spotAt spots i).py
+    pub predictions-many : length frame.predicted / 2 ≡ length predicted
+    pub prediction : (j : ℕ) (past : Prediction) → j < length predicted →
+        let q = slice_index_or predicted j past in
+        (pointAt frame.predicted j ≡ point q.x q.y) × (directionOf predicted j ≡ q.direction)
+
+  -- Refusal 13: there are more pairs within the radius than the candidate lists hold.
+  abbrev pub Overfull : Type 0
+  Overfull = k.capacity < length (pairs frame.points frame.limit frame.predicted frame.radius-sq)
+
+  -- The matches of the round are the one list; how it goes on is refusal 13, or looks at that list alone, each prediction named by its direction.
+  pub record Searched (next : Next) : Type 0 where
+    pub places : Places
+    pub list : List Match
+    pub the : TheMatches frame list
+    pub cache : Cache
+    pub follows : (Overfull × (next ≡ refuse 13))
+        ⊎ (next ≡ settled fit.pose (clipped measured spread s.matches) cache (renamed predicted list))
+
+-- 02, CR 9: "Prove of the matcher's list in each round .. save where 13 is given"; nor is there a list where a pass met 12. So goes every round, from any
+-- state. A run makes its rounds by `round` alone (`loop`).
+abbrev pub RoundMeant : Type 0
+RoundMeant = (k : Fixed) (spots directions : List Float) (s : State)
+    → (fit k spots directions s).fine ≡ true → Searched k spots directions s (round k spots directions s).found.next
