@@ -1,7 +1,7 @@
 -- What the matches of a round mean: `RoundMeant` of `specs/Meaning.antt`. The search of a round comes down to `associated` in each of its cases. Assumes
 -- nothing.
-use Rattle.std.proofs.Common.{◌≡◌, ◌⊎◌, ℕ, ◌<◌, Bool, true, false, cond, ltb, List, length, inl, inr, refl, sym, subst}
-use borrow.Author.Tests.{ltb-true}
+use Rattle.std.proofs.Common.{◌≡◌, ◌⊎◌, ℕ, ◌<◌, ◌≤◌, Bool, true, false, cond, ltb, List, length, inl, inr, refl, sym, subst}
+use borrow.Author.Tests.{ltb-true, ltb-false}
 use lib.Ieee.{Float}
 use Rattle.rounding.specs.Arith.{◌⊗◌}
 use Rattle.pairs.specs.Pairs.{pairs}
@@ -49,9 +49,10 @@ module _ (k : Fixed) (spots directions : List Float) (s : State) where
       next : Next
       next = settled pose kept c (renamed seen (matchesOf (pointsOf spots k.limit) k.limit (laid seen) (px ⊗ px)))
 
-      by : (b : Bool) → ltb k.capacity many ≡ b → ((k.capacity < many) × (cond b (refuse 13) next ≡ refuse 13)) ⊎ (cond b (refuse 13) next ≡ next)
+      by : (b : Bool) → ltb k.capacity many ≡ b
+          → ((k.capacity < many) × (cond b (refuse 13) next ≡ refuse 13)) ⊎ ((many ≤ k.capacity) × (cond b (refuse 13) next ≡ next))
       by true e = inl (ltb-true k.capacity many e, refl)
-      by false e = inr refl
+      by false e = inr (ltb-false k.capacity many e, refl)
 
   abbrev axes : List (List Float)
   axes = cameraRows pose.theta pose.ra pose.dec

@@ -1,6 +1,6 @@
 -- What the matches of a round mean: the one list of crate `matching`'s `Meaning.antt`, in every round. Definitions only; the proof is
 -- `proofs/RoundMeaning.antt`. Assumes nothing.
-use Rattle.std.specs.Prelude.{◌≡◌, ℕ, ◌/◌, ◌<◌, true, cond, ◌⊎◌, List, length, slice_index_or, Float}
+use Rattle.std.specs.Prelude.{◌≡◌, ℕ, ◌/◌, ◌<◌, ◌≤◌, true, cond, ◌⊎◌, List, length, slice_index_or, Float}
 use Rattle.rounding.specs.Arith.{◌⊗◌}
 use Rattle.pairs.specs.Pairs.{pointAt, pairs, spotsWithin}
 use Rattle.pairs.specs.Candidates.{point}
@@ -62,18 +62,19 @@ module _ (k : Fixed) (spots directions : List Float) (s : State) where
         let q = slice_index_or predicted j past in
         (pointAt frame.predicted j ≡ point q.x q.y) × (directionOf predicted j ≡ q.direction)
 
-  -- Refusal 13: there are more pairs within the radius than the candidate lists hold.
-  abbrev pub Overfull : Type 0
-  Overfull = k.capacity < length (pairs frame.points frame.limit frame.predicted frame.radius-sq)
+  -- How many pairs lie within the radius, which refusal 13 goes by.
+  abbrev pub found : ℕ
+  found = length (pairs frame.points frame.limit frame.predicted frame.radius-sq)
 
-  -- The matches of the round are the one list; how it goes on is refusal 13, or looks at that list alone, each prediction named by its direction.
+  -- The matches of the round are the one list; the round is refused with 13, or goes on by that list alone, each prediction named by its direction.
   pub record Searched (next : Next) : Type 0 where
     pub places : Places
     pub list : List Match
     pub the : TheMatches frame list
     pub cache : Cache
-    pub follows : (Overfull × (next ≡ refuse 13))
-        ⊎ (next ≡ settled fit.pose (clipped measured spread s.matches) cache (renamed predicted list))
+    pub follows : ((k.capacity < found) × (next ≡ refuse 13))
+        ⊎ ((found ≤ k.capacity)
+        × (next ≡ settled fit.pose (clipped measured spread s.matches) cache (renamed predicted list)))
 
 -- 02, CR 9: "Prove of the matcher's list in each round .. save where 13 is given"; nor is there a list where a pass met 12. So goes every round, from any
 -- state. A run makes its rounds by `round` alone (`loop`).
