@@ -1,7 +1,7 @@
 -- Pairs that share a spot or a prediction, and the matcher's list as what is picked of the pairs in order (`Picking.antt`). Assumes nothing.
-use Rattle.std.proofs.Common.{◌≡◌, Bool, true, false, cond, ◌||◌, List, [], ◌∷◌, inl, inr, ⊎_elim, refl, sym, ap, ap₂, ◌∙◌}
-use Rattle.std.proofs.lemmas.Bool.{or_cases, or_left, or_right}
-use borrow.Author.Tests.{eqb-true, eq-eqb}
+use Rattle.std.proofs.Common.{◌≡◌, Bool, true, false, cond, ◌||◌, List, [], ◌∷◌, inl, inr, refl, sym, ap, ap₂, ◌∙◌}
+use Rattle.std.specs.Bool.{Decides}
+use Rattle.std.proofs.lemmas.Bool.Decides.{Decides-or, Decides-eqb}
 use lib.Dec.{eqb}
 use Rattle.pairs.specs.Pairs.{Pair}
 use Rattle.pairs.specs.Elements.{All, none, more}
@@ -16,19 +16,18 @@ use Rattle.matching.proofs.Picking.{both-ways, clash, picked}
 pub share : Match → Match → Bool
 share m n = eqb m.spot n.spot || eqb m.prediction n.prediction
 
-pub share-self : (m : Match) → share m m ≡ true
+says : (m n : Match) → Decides (share m n) (Share m n)
 unfolding share
-share-self m = or_left _ _ (eq-eqb m.spot m.spot refl)
+says m n = Decides-or _ _ (Decides-eqb m.spot n.spot) (Decides-eqb m.prediction n.prediction)
 
 pub shares : (m n : Match) → Share m n → share m n ≡ true
-unfolding share
-shares m n (inl e) = or_left _ _ (eq-eqb m.spot n.spot e)
-shares m n (inr e) = or_right (eqb m.spot n.spot) _ (eq-eqb m.prediction n.prediction e)
+shares m n = (says m n).1
 
 pub shared : (m n : Match) → share m n ≡ true → Share m n
-unfolding share
-shared m n h =
-    ⊎_elim (λ e. inl (eqb-true m.spot n.spot e)) (λ e. inr (eqb-true m.prediction n.prediction e)) (or_cases (eqb m.spot n.spot) _ h)
+shared m n = (says m n).0
+
+pub share-self : (m : Match) → share m m ≡ true
+share-self m = shares m m (inl refl)
 
 pub turned-round : (m n : Match) → Share m n → Share n m
 turned-round m n (inl e) = inl (sym e)
@@ -70,11 +69,6 @@ unfolding clashes clash share matchOf
 clashes-clash p [] = refl
 clashes-clash p (m ∷ ms) =
     ap (λ (b : Bool). eqb p.spot m.spot || eqb p.prediction m.prediction || b) (clashes-clash p ms)
-    ∙ bracket (eqb p.spot m.spot) (eqb p.prediction m.prediction) _
-  where
-    bracket : (a b c : Bool) → a || b || c ≡ (a || b) || c
-    bracket true b c = refl
-    bracket false b c = refl
 
 pub assigned-picked : (ps : List Pair) (taken : List Match) → assigned taken ps ≡ picked share taken (mapped ps)
 unfolding assigned picked mapped matchOf

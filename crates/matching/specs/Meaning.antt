@@ -32,7 +32,8 @@ module _ (f : Frame) where
   abbrev pub apart : Match → Float
   apart m = squared (pointAt f.points m.spot) (pointAt f.predicted m.prediction)
 
-  -- A pair within the radius, of "the spots within the matching limit" and the predictions: "radius the squared one it is compared with".
+  -- A pair within the radius: of one of "the spots within the matching limit" and a prediction, their distance at most the squared radius "it is compared
+  -- with". A distance that is no number never is.
   pub record Near (m : Match) : Type 0 where
     pub spot : m.spot < spotsWithin f.points f.limit
     pub prediction : m.prediction < length f.predicted / 2

@@ -1,10 +1,9 @@
 -- What the matches of a round mean: `RoundMeant` of `specs/Meaning.antt`. The search of a round comes down to `associated` in each of its cases. Assumes
 -- nothing.
-use Rattle.std.proofs.Common.{◌≡◌, ◌⊎◌, ℕ, ◌<◌, ◌≤◌, Bool, true, false, cond, ltb, List, length, inl, inr, refl, sym, subst}
+use Rattle.std.proofs.Common.{◌≡◌, ◌⊎◌, ℕ, ◌<◌, ◌≤◌, Bool, true, false, cond, ltb, List, inl, inr, refl, sym, subst}
 use borrow.Author.Tests.{ltb-true, ltb-false}
 use lib.Ieee.{Float}
 use Rattle.rounding.specs.Arith.{◌⊗◌}
-use Rattle.pairs.specs.Pairs.{pairs}
 use Rattle.matching.specs.Greedy.{matchesOf}
 use Rattle.matching.proofs.Meaning.{matcher-meant}
 use Rattle.project.specs.Camera.{boresight, cameraRows}
@@ -15,11 +14,11 @@ use Rattle.query.specs.Query.{Cache, empty, full, query, drifted, Prediction, pr
 use Rattle.wcs_refine.specs.Clip.{clipped}
 use Rattle.wcs_refine.specs.Associate.{laid, renamed}
 use Rattle.wcs_refine.specs.Round.{State, Next, refuse, settled, associated, fresh, reused, searched, rest, fitted, round}
-use Rattle.wcs_refine.specs.Meaning.{fit, measured, spread, radius, listedBy, predicted, frame, Searched, RoundMeant}
+use Rattle.wcs_refine.specs.Meaning.{fit, measured, spread, radius, listedBy, predicted, frame, found, Searched, RoundMeant}
 use Rattle.wcs_refine.proofs.RoundPlaces.{places}
 
 module _ (k : Fixed) (spots directions : List Float) (s : State) where
-  -- the matches of the pass's clip, which the search starts from
+  -- what the clip leaves of the matches
   abbrev kept : List ℕ
   kept = clipped (measured k spots directions s) (spread k spots directions s) s.matches
 
@@ -40,19 +39,17 @@ module _ (k : Fixed) (spots directions : List Float) (s : State) where
     list = matchesOf (pointsOf spots k.limit) k.limit (laid seen) (px ⊗ px);
     the = matcher-meant (frame k spots directions s);
     cache = c;
-    follows = by (ltb k.capacity many) refl;
+    follows = by (ltb k.capacity (found k spots directions s)) refl;
   }
     where
-      many : ℕ
-      many = length (pairs (pointsOf spots k.limit) k.limit (laid seen) (px ⊗ px))
-
       next : Next
       next = settled pose kept c (renamed seen (matchesOf (pointsOf spots k.limit) k.limit (laid seen) (px ⊗ px)))
 
-      by : (b : Bool) → ltb k.capacity many ≡ b
-          → ((k.capacity < many) × (cond b (refuse 13) next ≡ refuse 13)) ⊎ ((many ≤ k.capacity) × (cond b (refuse 13) next ≡ next))
-      by true e = inl (ltb-true k.capacity many e, refl)
-      by false e = inr (ltb-false k.capacity many e, refl)
+      by : (b : Bool) → ltb k.capacity (found k spots directions s) ≡ b
+          → ((k.capacity < found k spots directions s) × (cond b (refuse 13) next ≡ refuse 13))
+          ⊎ ((found k spots directions s ≤ k.capacity) × (cond b (refuse 13) next ≡ next))
+      by true e = inl (ltb-true k.capacity (found k spots directions s) e, refl)
+      by false e = inr (ltb-false k.capacity (found k spots directions s) e, refl)
 
   abbrev axes : List (List Float)
   axes = cameraRows pose.theta pose.ra pose.dec

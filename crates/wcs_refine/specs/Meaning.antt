@@ -66,7 +66,8 @@ module _ (k : Fixed) (spots directions : List Float) (s : State) where
   abbrev pub found : ℕ
   found = length (pairs frame.points frame.limit frame.predicted frame.radius-sq)
 
-  -- The matches of the round are the one list; the round is refused with 13, or goes on by that list alone, each prediction named by its direction.
+  -- The matches of the round are the one list. The round is refused with 13, or goes on by that list alone, each prediction named by its direction, and with
+  -- some query cached for the next.
   pub record Searched (next : Next) : Type 0 where
     pub places : Places
     pub list : List Match
