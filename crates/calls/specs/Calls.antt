@@ -84,7 +84,7 @@ second-query = record {
           ∷ (f64 0xBDAAE9F8D8D78925 ∷ f64 0x3D25E7D315B1164D ∷ f64 0x3D65EE0A521798CB ∷ [])
           ∷ [];
       matches = 1 ∷ 1 ∷ 0 ∷ 0 ∷ 3 ∷ 3 ∷ 2 ∷ 2 ∷ [];
-    }) 2 4 2;
+    }) 2 4 2 5;
     lent = record {
       numbers = replicate 144 0;
       floats = replicate 144 zero64;
@@ -119,7 +119,7 @@ one-clip = record {
           ∷ (f64 0x3E7AD647B7C03EFE ∷ f64 0xBDEB6BF4947C5A03 ∷ f64 0x3E14904F2C5E6FEB ∷ [])
           ∷ [];
       matches = 0 ∷ 0 ∷ 1 ∷ 1 ∷ 2 ∷ 2 ∷ 3 ∷ 3 ∷ 5 ∷ 5 ∷ [];
-    }) 1 5 1;
+    }) 1 5 1 5;
     lent = record {
       numbers = replicate 288 0;
       floats = replicate 288 zero64;
@@ -154,7 +154,7 @@ last-clip = record {
           ∷ (f64 0xBE3A704B34F95B79 ∷ f64 0xBDB649D4293B8326 ∷ f64 0x3E093A5B183FFABB ∷ [])
           ∷ [];
       matches = 1 ∷ 1 ∷ 0 ∷ 0 ∷ 2 ∷ 2 ∷ 6 ∷ 6 ∷ 4 ∷ 4 ∷ 3 ∷ 3 ∷ [];
-    }) 2 5 1;
+    }) 2 5 1 12;
     lent = record {
       numbers = replicate 224 0;
       floats = replicate 224 zero64;
@@ -189,7 +189,7 @@ grazing = record {
           ∷ (f64 0xBDA4BEE6B9DF9E55 ∷ f64 0xBD0A94CD7137A5E1 ∷ f64 0x3D9374F06DE181BD ∷ [])
           ∷ [];
       matches = 1 ∷ 1 ∷ 2 ∷ 2 ∷ 0 ∷ 0 ∷ 3 ∷ 3 ∷ [];
-    }) 2 3 1;
+    }) 2 3 1 5;
     lent = record {
       numbers = replicate 176 0;
       floats = replicate 176 zero64;

@@ -144,10 +144,10 @@ pass-1-1 = record { enough = refl; view = refl; sums = refl; solution = refl; po
 passes-1 : fitPasses 10 k.cut rows-1 pose-0 ≡ passesOf pose-1 1 false
 passes-1 = unsound-pass 9 pass-1-1
 
-round-1 : round k spots directions state-0 ≡ roundOf (refuse 12) [] 1
+round-1 : round k spots directions state-0 ≡ roundOf (refuse 12) [] 1 0
 round-1 = unsound-round k spots directions state-0 looked-1 passes-1
 
-run : loop k spots directions 2 state-0 ≡ ranOf (refused 12) 1 1 []
+run : loop k spots directions 2 state-0 ≡ ranOf (refused 12) 1 1 [] 0
 run = refused-round k spots directions 1 state-0 round-1
 
 -- ---- the whole call

@@ -70,7 +70,7 @@ expected = record {
     rms = zero64;
     covariance = unconstrained;
     matches = [];
-  }) 1 0 1;
+  }) 1 0 1 0;
   lent = record {
     numbers = replicate 80 0;
     floats = replicate 80 zero64;

@@ -18,7 +18,7 @@ use Rattle.passes.specs.Fit.{fitPasses, moved, sound, still}
 use Rattle.wcs_refine.specs.Clip.{none, some, statistics, clipped, taken}
 use Rattle.wcs_refine.specs.Associate.{adaptivePx}
 use Rattle.query.specs.Query.{empty, full, axis32, leastCos, scanned, drifted, Prediction, predictions, pruned}
-use Rattle.wcs_refine.specs.Round.{State, go, associated, ended, loop, round}
+use Rattle.wcs_refine.specs.Round.{State, go, associated, compared, ended, loop, round}
 use Rattle.wcs_refine.specs.Closing.{sumSquares, rootMean}
 use Rattle.wcs_refine.specs.Call.{ok, left, outcome, queries}
 use Rattle.rounding.specs.Computed.{arithmetic}
@@ -173,11 +173,11 @@ state-1 = record {
 
 queried-1 : Queried k spots directions pose-0 ([]) (f64 0x40089374C0000000)
     centre-1 (one64 ∷ zero64 ∷ zero64 ∷ []) (f64 0x3FEFFDA020000000)
-    (0 ∷ 1 ∷ 2 ∷ 3 ∷ 4 ∷ 5 ∷ 6 ∷ []) camera-1 (0 ∷ 1 ∷ 2 ∷ 3 ∷ 4 ∷ 5 ∷ 6 ∷ []) predictions-1 (go state-1)
-unfolding boresight axis32 leastCos scanned cameraRows pruned predictions pointsOf associated arithmetic
-queried-1 = record { centre = refl; narrow = refl; least = refl; scan = refl; camera = refl; cached = refl; places = refl; matcher = refl }
+    (0 ∷ 1 ∷ 2 ∷ 3 ∷ 4 ∷ 5 ∷ 6 ∷ []) camera-1 (0 ∷ 1 ∷ 2 ∷ 3 ∷ 4 ∷ 5 ∷ 6 ∷ []) predictions-1 (go state-1) 12
+unfolding boresight axis32 leastCos scanned cameraRows pruned predictions pointsOf associated compared arithmetic
+queried-1 = record { centre = refl; narrow = refl; least = refl; scan = refl; camera = refl; cached = refl; places = refl; matcher = refl; counted = refl }
 
-round-1 : round k spots directions state-0 ≡ roundOf (go state-1) ((0 ∷ 1 ∷ 2 ∷ 3 ∷ 4 ∷ 5 ∷ 6 ∷ []) ∷ []) 0
+round-1 : round k spots directions state-0 ≡ roundOf (go state-1) ((0 ∷ 1 ∷ 2 ∷ 3 ∷ 4 ∷ 5 ∷ 6 ∷ []) ∷ []) 0 12
 round-1 = whole-round k spots directions state-0 looked-1 passes-1 measured-1
     (first-search queried-1)
 
@@ -434,15 +434,15 @@ state-2 = record {
 
 reused-2 : Reused k spots directions pose-5 (2 ∷ 2 ∷ 1 ∷ 1 ∷ 6 ∷ 6 ∷ 0 ∷ 0 ∷ 3 ∷ 3 ∷ 4 ∷ 4 ∷ []) (f64 0x4004000000000000)
     centre-1 pose-0.theta (0 ∷ 1 ∷ 2 ∷ 3 ∷ 4 ∷ 5 ∷ 6 ∷ [])
-    camera-2 predictions-2 (go state-2)
-unfolding drifted cameraRows predictions pointsOf associated arithmetic
-reused-2 = record { near = refl; camera = refl; places = refl; matcher = refl }
+    camera-2 predictions-2 (go state-2) 12
+unfolding drifted cameraRows predictions pointsOf associated compared arithmetic
+reused-2 = record { near = refl; camera = refl; places = refl; matcher = refl; counted = refl }
 
-round-2 : round k spots directions state-1 ≡ roundOf (go state-2) [] 5
+round-2 : round k spots directions state-1 ≡ roundOf (go state-2) [] 5 12
 round-2 = whole-round k spots directions state-1 looked-2 passes-2 measured-2
     (same-search reused-2)
 
-run : loop k spots directions 2 state-0 ≡ ranOf (ended state-2) 2 5 ((0 ∷ 1 ∷ 2 ∷ 3 ∷ 4 ∷ 5 ∷ 6 ∷ []) ∷ [])
+run : loop k spots directions 2 state-0 ≡ ranOf (ended state-2) 2 5 ((0 ∷ 1 ∷ 2 ∷ 3 ∷ 4 ∷ 5 ∷ 6 ∷ []) ∷ []) 12
 run = go-round k spots directions 1 state-0 round-1 (go-round k spots directions 0 state-1 round-2 (no-round k spots directions state-2))
 
 -- ---- the whole call
@@ -583,7 +583,7 @@ reported = record { view = refl; values = refl; squares = refl; normal = refl; m
 
 -- What it comes to.
 pub last-clip-row : outcome last-clip-call ≡ record {
-  answer = ok (reportOf pose-6 matrix (f64 0x3F1D70D70EAB54C6) spread (1 ∷ 1 ∷ 0 ∷ 0 ∷ 2 ∷ 2 ∷ 6 ∷ 6 ∷ 4 ∷ 4 ∷ 3 ∷ 3 ∷ [])) 2 5 1;
+  answer = ok (reportOf pose-6 matrix (f64 0x3F1D70D70EAB54C6) spread (1 ∷ 1 ∷ 0 ∷ 0 ∷ 2 ∷ 2 ∷ 6 ∷ 6 ∷ 4 ∷ 4 ∷ 3 ∷ 3 ∷ [])) 2 5 1 12;
   lent = record {
     numbers = replicate 224 0;
     floats = replicate 224 zero64;

@@ -13,7 +13,7 @@ use Rattle.passes.specs.Fit.{fitPasses}
 use Rattle.wcs_refine.specs.Clip.{none, statistics, clipped}
 use Rattle.wcs_refine.specs.Associate.{adaptivePx}
 use Rattle.query.specs.Query.{empty, axis32, leastCos, scanned, Prediction, predictions, pruned}
-use Rattle.wcs_refine.specs.Round.{State, refuse, associated, refused, loop, round}
+use Rattle.wcs_refine.specs.Round.{State, refuse, associated, compared, refused, loop, round}
 use Rattle.wcs_refine.specs.Call.{no, left, outcome, queries}
 use Rattle.rounding.specs.Computed.{arithmetic}
 use Rattle.calls.specs.Computed.{checks}
@@ -151,15 +151,15 @@ predictions-1 =
 
 queried-1 : Queried k spots directions pose-0 ([]) (f64 0x403EB851E0000000)
     centre-1 (one64 ∷ zero64 ∷ zero64 ∷ []) (f64 0x3FEFA693C0000000)
-    (0 ∷ 1 ∷ 2 ∷ 3 ∷ []) camera-1 (0 ∷ 1 ∷ 2 ∷ 3 ∷ []) predictions-1 (refuse 13)
-unfolding boresight axis32 leastCos scanned cameraRows pruned predictions pointsOf associated arithmetic
-queried-1 = record { centre = refl; narrow = refl; least = refl; scan = refl; camera = refl; cached = refl; places = refl; matcher = refl }
+    (0 ∷ 1 ∷ 2 ∷ 3 ∷ []) camera-1 (0 ∷ 1 ∷ 2 ∷ 3 ∷ []) predictions-1 (refuse 13) 0
+unfolding boresight axis32 leastCos scanned cameraRows pruned predictions pointsOf associated compared arithmetic
+queried-1 = record { centre = refl; narrow = refl; least = refl; scan = refl; camera = refl; cached = refl; places = refl; matcher = refl; counted = refl }
 
-round-1 : round k spots directions state-0 ≡ roundOf (refuse 13) ((0 ∷ 1 ∷ 2 ∷ 3 ∷ []) ∷ []) 0
+round-1 : round k spots directions state-0 ≡ roundOf (refuse 13) ((0 ∷ 1 ∷ 2 ∷ 3 ∷ []) ∷ []) 0 0
 round-1 = whole-round k spots directions state-0 looked-1 passes-1 measured-1
     (first-search queried-1)
 
-run : loop k spots directions 2 state-0 ≡ ranOf (refused 13) 1 0 ((0 ∷ 1 ∷ 2 ∷ 3 ∷ []) ∷ [])
+run : loop k spots directions 2 state-0 ≡ ranOf (refused 13) 1 0 ((0 ∷ 1 ∷ 2 ∷ 3 ∷ []) ∷ []) 0
 run = refused-round k spots directions 1 state-0 round-1
 
 -- ---- the whole call

@@ -17,7 +17,7 @@ use Rattle.passes.specs.Fit.{fitPasses, moved, sound, still}
 use Rattle.wcs_refine.specs.Clip.{some, statistics, clipped}
 use Rattle.wcs_refine.specs.Associate.{adaptivePx}
 use Rattle.query.specs.Query.{empty, full, axis32, leastCos, scanned, Prediction, predictions, pruned}
-use Rattle.wcs_refine.specs.Round.{State, done, associated, ended, loop, round}
+use Rattle.wcs_refine.specs.Round.{State, done, associated, compared, ended, loop, round}
 use Rattle.wcs_refine.specs.Closing.{sumSquares, rootMean}
 use Rattle.wcs_refine.specs.Call.{ok, left, outcome, queries}
 use Rattle.rounding.specs.Computed.{arithmetic}
@@ -371,15 +371,15 @@ state-1 = record {
 
 queried-1 : Queried k spots directions pose-5 (0 ∷ 0 ∷ 1 ∷ 1 ∷ 2 ∷ 2 ∷ 3 ∷ 3 ∷ 5 ∷ 5 ∷ []) (f64 0x4004000000000000)
     centre-1 (one64 ∷ f64 0xBF0D72BAE0000000 ∷ f64 0x3EC6C20FE0000000 ∷ []) (f64 0x3FEFFCAFA0000000)
-    (0 ∷ 1 ∷ 2 ∷ 3 ∷ 4 ∷ 5 ∷ []) camera-1 (0 ∷ 1 ∷ 2 ∷ 3 ∷ 4 ∷ 5 ∷ []) predictions-1 (done state-1)
-unfolding boresight axis32 leastCos scanned cameraRows pruned predictions pointsOf associated arithmetic
-queried-1 = record { centre = refl; narrow = refl; least = refl; scan = refl; camera = refl; cached = refl; places = refl; matcher = refl }
+    (0 ∷ 1 ∷ 2 ∷ 3 ∷ 4 ∷ 5 ∷ []) camera-1 (0 ∷ 1 ∷ 2 ∷ 3 ∷ 4 ∷ 5 ∷ []) predictions-1 (done state-1) 5
+unfolding boresight axis32 leastCos scanned cameraRows pruned predictions pointsOf associated compared arithmetic
+queried-1 = record { centre = refl; narrow = refl; least = refl; scan = refl; camera = refl; cached = refl; places = refl; matcher = refl; counted = refl }
 
-round-1 : round k spots directions state-0 ≡ roundOf (done state-1) ((0 ∷ 1 ∷ 2 ∷ 3 ∷ 4 ∷ 5 ∷ []) ∷ []) 5
+round-1 : round k spots directions state-0 ≡ roundOf (done state-1) ((0 ∷ 1 ∷ 2 ∷ 3 ∷ 4 ∷ 5 ∷ []) ∷ []) 5 5
 round-1 = whole-round k spots directions state-0 looked-1 passes-1 measured-1
     (first-search queried-1)
 
-run : loop k spots directions 2 state-0 ≡ ranOf (ended state-1) 1 5 ((0 ∷ 1 ∷ 2 ∷ 3 ∷ 4 ∷ 5 ∷ []) ∷ [])
+run : loop k spots directions 2 state-0 ≡ ranOf (ended state-1) 1 5 ((0 ∷ 1 ∷ 2 ∷ 3 ∷ 4 ∷ 5 ∷ []) ∷ []) 5
 run = done-round k spots directions 1 state-0 round-1
 
 -- ---- the whole call
@@ -441,7 +441,7 @@ reported = record { view = refl; values = refl; squares = refl; normal = refl; m
 
 -- What it comes to.
 pub one-clip-row : outcome one-clip-call ≡ record {
-  answer = ok (reportOf pose-5 matrix (f64 0x3F1C9C2A98248B3D) spread (0 ∷ 0 ∷ 1 ∷ 1 ∷ 2 ∷ 2 ∷ 3 ∷ 3 ∷ 5 ∷ 5 ∷ [])) 1 5 1;
+  answer = ok (reportOf pose-5 matrix (f64 0x3F1C9C2A98248B3D) spread (0 ∷ 0 ∷ 1 ∷ 1 ∷ 2 ∷ 2 ∷ 3 ∷ 3 ∷ 5 ∷ 5 ∷ [])) 1 5 1 5;
   lent = record {
     numbers = replicate 288 0;
     floats = replicate 288 zero64;

@@ -17,7 +17,7 @@ use Rattle.passes.specs.Fit.{fitPasses, moved, sound, still}
 use Rattle.wcs_refine.specs.Clip.{none, statistics, clipped}
 use Rattle.wcs_refine.specs.Associate.{adaptivePx}
 use Rattle.query.specs.Query.{empty, full, axis32, leastCos, scanned, drifted, Prediction, predictions, pruned}
-use Rattle.wcs_refine.specs.Round.{State, go, done, associated, ended, loop, round}
+use Rattle.wcs_refine.specs.Round.{State, go, done, associated, compared, ended, loop, round}
 use Rattle.wcs_refine.specs.Closing.{sumSquares, rootMean}
 use Rattle.wcs_refine.specs.Call.{ok, left, outcome, queries}
 use Rattle.rounding.specs.Computed.{arithmetic}
@@ -163,11 +163,11 @@ state-1 = record {
 
 queried-1 : Queried k spots directions pose-0 ([]) (f64 0x3FF0624DE0000000)
     centre-1 (one64 ∷ zero64 ∷ zero64 ∷ []) (f64 0x3FEFDEECE0000000)
-    (0 ∷ 1 ∷ 2 ∷ 3 ∷ []) camera-1 (0 ∷ 1 ∷ 2 ∷ 3 ∷ []) predictions-1 (go state-1)
-unfolding boresight axis32 leastCos scanned cameraRows pruned predictions pointsOf associated arithmetic
-queried-1 = record { centre = refl; narrow = refl; least = refl; scan = refl; camera = refl; cached = refl; places = refl; matcher = refl }
+    (0 ∷ 1 ∷ 2 ∷ 3 ∷ []) camera-1 (0 ∷ 1 ∷ 2 ∷ 3 ∷ []) predictions-1 (go state-1) 4
+unfolding boresight axis32 leastCos scanned cameraRows pruned predictions pointsOf associated compared arithmetic
+queried-1 = record { centre = refl; narrow = refl; least = refl; scan = refl; camera = refl; cached = refl; places = refl; matcher = refl; counted = refl }
 
-round-1 : round k spots directions state-0 ≡ roundOf (go state-1) ((0 ∷ 1 ∷ 2 ∷ 3 ∷ []) ∷ []) 0
+round-1 : round k spots directions state-0 ≡ roundOf (go state-1) ((0 ∷ 1 ∷ 2 ∷ 3 ∷ []) ∷ []) 0 4
 round-1 = whole-round k spots directions state-0 looked-1 passes-1 measured-1
     (first-search queried-1)
 
@@ -375,19 +375,19 @@ state-2 = record {
 
 queried-2 : Queried k spots directions pose-4 (1 ∷ 1 ∷ 0 ∷ 0 ∷ 3 ∷ 3 ∷ 2 ∷ 2 ∷ []) (f64 0x3FF0624DE0000000)
     centre-2 (one64 ∷ f64 0xBEA4A65F00000000 ∷ f64 0x3EC8122920000000 ∷ []) (f64 0x3FEFDEECE0000000)
-    (0 ∷ 1 ∷ 2 ∷ 3 ∷ []) camera-2 (0 ∷ 1 ∷ 2 ∷ 3 ∷ []) predictions-2 (done state-2)
-unfolding boresight axis32 leastCos scanned cameraRows pruned predictions pointsOf associated arithmetic
-queried-2 = record { centre = refl; narrow = refl; least = refl; scan = refl; camera = refl; cached = refl; places = refl; matcher = refl }
+    (0 ∷ 1 ∷ 2 ∷ 3 ∷ []) camera-2 (0 ∷ 1 ∷ 2 ∷ 3 ∷ []) predictions-2 (done state-2) 5
+unfolding boresight axis32 leastCos scanned cameraRows pruned predictions pointsOf associated compared arithmetic
+queried-2 = record { centre = refl; narrow = refl; least = refl; scan = refl; camera = refl; cached = refl; places = refl; matcher = refl; counted = refl }
 
 drifted-2 : drifted k pose-4 centre-1 pose-0.theta ≡ true
 unfolding drifted arithmetic
 drifted-2 = refl
 
-round-2 : round k spots directions state-1 ≡ roundOf (done state-2) ((0 ∷ 1 ∷ 2 ∷ 3 ∷ []) ∷ []) 4
+round-2 : round k spots directions state-1 ≡ roundOf (done state-2) ((0 ∷ 1 ∷ 2 ∷ 3 ∷ []) ∷ []) 4 5
 round-2 = whole-round k spots directions state-1 looked-2 passes-2 measured-2
     (new-search queried-2 centre-1 pose-0.theta (0 ∷ 1 ∷ 2 ∷ 3 ∷ []) drifted-2)
 
-run : loop k spots directions 3 state-0 ≡ ranOf (ended state-2) 2 4 ((0 ∷ 1 ∷ 2 ∷ 3 ∷ []) ∷ (0 ∷ 1 ∷ 2 ∷ 3 ∷ []) ∷ [])
+run : loop k spots directions 3 state-0 ≡ ranOf (ended state-2) 2 4 ((0 ∷ 1 ∷ 2 ∷ 3 ∷ []) ∷ (0 ∷ 1 ∷ 2 ∷ 3 ∷ []) ∷ []) 5
 run = go-round k spots directions 2 state-0 round-1 (done-round k spots directions 1 state-1 round-2)
 
 -- ---- the whole call
@@ -431,7 +431,7 @@ reported = record { view = refl; values = refl; squares = refl; normal = refl; m
 
 -- What it comes to.
 pub second-query-row : outcome second-query-call ≡ record {
-  answer = ok (reportOf pose-4 matrix (f64 0x3EC52F3498084076) spread (1 ∷ 1 ∷ 0 ∷ 0 ∷ 3 ∷ 3 ∷ 2 ∷ 2 ∷ [])) 2 4 2;
+  answer = ok (reportOf pose-4 matrix (f64 0x3EC52F3498084076) spread (1 ∷ 1 ∷ 0 ∷ 0 ∷ 3 ∷ 3 ∷ 2 ∷ 2 ∷ [])) 2 4 2 5;
   lent = record {
     numbers = replicate 144 0;
     floats = replicate 144 zero64;

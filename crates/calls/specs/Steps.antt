@@ -5,7 +5,7 @@ use Rattle.std.proofs.Math.Path.{refl}
 use Rattle.std.proofs.Common.{◌∙◌}
 use Rattle.std.proofs.Math.Bool.{true, cond}
 use mathlib.Core.List.{List, [], ◌∷◌, ◌++◌}
-use Prim.Native.Nat.{ℕ, zero, suc, ◌+◌, ◌/◌}
+use Prim.Native.Nat.{ℕ, zero, suc, ◌+◌, ◌/◌, max}
 use Rattle.std.specs.Float.Ieee.{Float}
 use Rattle.rounding.specs.Arith.{zero64}
 use Rattle.stats.specs.declared.MedianSigma.{MedianSigma}
@@ -28,7 +28,7 @@ use Rattle.passes.specs.Fit.{Passes, fitPasses, passed, goesOn, moved, sound, st
 use Rattle.wcs_refine.specs.Clip.{Statistics, some, statistics, clipped, taken}
 use Rattle.wcs_refine.specs.Associate.{adaptivePx}
 use Rattle.query.specs.Query.{empty, full, query, axis32, leastCos, scanned, drifted, Prediction, predictions, pruned}
-use Rattle.wcs_refine.specs.Round.{State, Next, go, done, refuse, Found, Round, associated, fresh, reused, searched, rest, fitted, round}
+use Rattle.wcs_refine.specs.Round.{State, Next, go, done, refuse, Found, Round, associated, compared, fresh, reused, searched, rest, fitted, round}
 use Rattle.wcs_refine.specs.Round.{Ending, refused, ended, Run, carry, loop}
 use Rattle.wcs_refine.specs.Closing.{Closed, fine, ifSound, refitted, recleaned, cleanedBy, cleaned, sumSquares, rootMean, Report, reported}
 use Rattle.wcs_refine.specs.Call.{Answer, no, ok, start, runOf, queries, queriesAfter, closed, finished, answer, answerAfter, left, Outcome, outcome}
@@ -98,19 +98,19 @@ pub record Measured (k : Fixed) (rs : List Row) (p : Pose) (ms : List ℕ) (w : 
   pub radius : adaptivePx k st ≡ r
 
 -- A search, a round and a run by their parts.
-abbrev pub foundOf : Next → List (List ℕ) → Found
-foundOf x qs = record { next = x; queries = qs }
+abbrev pub foundOf : Next → List (List ℕ) → ℕ → Found
+foundOf x qs y = record { next = x; queries = qs; comparisons = y }
 
-abbrev pub roundOf : Next → List (List ℕ) → ℕ → Round
-roundOf x qs n = record { found = foundOf x qs; passes = n }
+abbrev pub roundOf : Next → List (List ℕ) → ℕ → ℕ → Round
+roundOf x qs n y = record { found = foundOf x qs y; passes = n }
 
-abbrev pub ranOf : Ending → ℕ → ℕ → List (List ℕ) → Run
-ranOf e r n q = record { ending = e; rounds = r; passes = n; queries = q }
+abbrev pub ranOf : Ending → ℕ → ℕ → List (List ℕ) → ℕ → Run
+ranOf e r n q y = record { ending = e; rounds = r; passes = n; queries = q; comparisons = y }
 
--- A fresh query at the pose p, what is cached of it, the predictions, and what the matcher comes to.
+-- A fresh query at the pose p, what is cached of it, the predictions, what the matcher comes to, and its comparisons.
 pub record Queried (k : Fixed) (spots directions : List Float) (p : Pose) (ms : List ℕ) (r : Float)
     (b axis : List Float) (c : Float)
-    (listed : List ℕ) (m : List (List Float)) (near : List ℕ) (qs : List Prediction) (x : Next) : Type 0 where
+    (listed : List ℕ) (m : List (List Float)) (near : List ℕ) (qs : List Prediction) (x : Next) (y : ℕ) : Type 0 where
   pub centre : boresight p.ra p.dec ≡ b
   pub narrow : axis32 b ≡ axis
   pub least : leastCos k ≡ c
@@ -119,12 +119,13 @@ pub record Queried (k : Fixed) (spots directions : List Float) (p : Pose) (ms : 
   pub cached : pruned k directions m listed ≡ near
   pub places : predictions k directions m listed ≡ qs
   pub matcher : associated k (pointsOf spots k.limit) p ms (full b p.theta near) r qs ≡ x
+  pub counted : compared k (pointsOf spots k.limit) r qs ≡ y
 
 module _ {k : Fixed} {spots directions : List Float} {p : Pose} {ms : List ℕ} {r : Float} {b axis : List Float}
     {c : Float}
-    {listed : List ℕ} {m : List (List Float)} {near : List ℕ} {qs : List Prediction} {x : Next}
-    (h : Queried k spots directions p ms r b axis c listed m near qs x) where
-  fresh-found : fresh k spots directions p ms r (query k directions p) ≡ foundOf x (listed ∷ [])
+    {listed : List ℕ} {m : List (List Float)} {near : List ℕ} {qs : List Prediction} {x : Next} {y : ℕ}
+    (h : Queried k spots directions p ms r b axis c listed m near qs x y) where
+  fresh-found : fresh k spots directions p ms r (query k directions p) ≡ foundOf x (listed ∷ []) y
   unfolding fresh query
   fresh-found =
       let found : List ℕ → Found = λ l. fresh k spots directions p ms r l in
@@ -132,53 +133,57 @@ module _ {k : Fixed} {spots directions : List Float} {p : Pose} {ms : List ℕ} 
       ∙ (λ i. found (scanned directions (h.narrow i) (h.least i) 0 k.count))
       ∙ (λ i. found (h.scan i))
       ∙ (λ i. foundOf (associated k (pointsOf spots k.limit) p ms (full (h.centre i) p.theta (pruned k directions (h.camera i) listed)) r
-      (predictions k directions (h.camera i) listed)) (listed ∷ []))
-      ∙ (λ i. foundOf (associated k (pointsOf spots k.limit) p ms (full b p.theta (h.cached i)) r (h.places i)) (listed ∷ []))
-      ∙ (λ i. foundOf (h.matcher i) (listed ∷ []))
+      (predictions k directions (h.camera i) listed)) (listed ∷ [])
+      (compared k (pointsOf spots k.limit) r (predictions k directions (h.camera i) listed)))
+      ∙ (λ i. foundOf (associated k (pointsOf spots k.limit) p ms (full b p.theta (h.cached i)) r (h.places i)) (listed ∷ [])
+      (compared k (pointsOf spots k.limit) r (h.places i)))
+      ∙ (λ i. foundOf (h.matcher i) (listed ∷ []) (h.counted i))
 
   -- The first search of a call has nothing cached; a later one queries anew where the pose has drifted.
-  pub first-search : searched k spots directions p ms r empty ≡ foundOf x (listed ∷ [])
+  pub first-search : searched k spots directions p ms r empty ≡ foundOf x (listed ∷ []) y
   unfolding searched
   first-search = fresh-found
 
   pub new-search : (b0 : List Float) (t0 : Float) (l0 : List ℕ) → drifted k p b0 t0 ≡ true →
-      searched k spots directions p ms r (full b0 t0 l0) ≡ foundOf x (listed ∷ [])
+      searched k spots directions p ms r (full b0 t0 l0) ≡ foundOf x (listed ∷ []) y
   unfolding searched reused
   new-search b0 t0 l0 d = (λ i. reused k spots directions p ms r b0 t0 l0 (d i)) ∙ fresh-found
 
 -- A search by the query that is cached, from which the pose p has not drifted.
 pub record Reused (k : Fixed) (spots directions : List Float) (p : Pose) (ms : List ℕ) (r : Float) (b : List Float)
     (t : Float) (listed : List ℕ)
-    (m : List (List Float)) (qs : List Prediction) (x : Next) : Type 0 where
+    (m : List (List Float)) (qs : List Prediction) (x : Next) (y : ℕ) : Type 0 where
   pub near : drifted k p b t ≡ false
   pub camera : cameraRows p.theta p.ra p.dec ≡ m
   pub places : predictions k directions m listed ≡ qs
   pub matcher : associated k (pointsOf spots k.limit) p ms (full b t listed) r qs ≡ x
+  pub counted : compared k (pointsOf spots k.limit) r qs ≡ y
 
 -- The search with what is cached.
 pub same-search :
     {k : Fixed} {spots directions : List Float} {p : Pose} {ms : List ℕ} {r : Float} {b : List Float} {t : Float}
     {listed : List ℕ}
-    {m : List (List Float)} {qs : List Prediction} {x : Next} → Reused k spots directions p ms r b t listed m qs x →
-    searched k spots directions p ms r (full b t listed) ≡ foundOf x []
+    {m : List (List Float)} {qs : List Prediction} {x : Next} {y : ℕ} → Reused k spots directions p ms r b t listed m qs x y →
+    searched k spots directions p ms r (full b t listed) ≡ foundOf x [] y
 unfolding searched reused
 same-search {k} {spots} {directions} {p} {ms} {r} {b} {t} {listed} h =
     (λ i. reused k spots directions p ms r b t listed (h.near i))
-    ∙ (λ i. foundOf (associated k (pointsOf spots k.limit) p ms (full b t listed) r (predictions k directions (h.camera i) listed)) [])
-    ∙ (λ i. foundOf (associated k (pointsOf spots k.limit) p ms (full b t listed) r (h.places i)) [])
-    ∙ (λ i. foundOf (h.matcher i) [])
+    ∙ (λ i. foundOf (associated k (pointsOf spots k.limit) p ms (full b t listed) r (predictions k directions (h.camera i) listed)) []
+    (compared k (pointsOf spots k.limit) r (predictions k directions (h.camera i) listed)))
+    ∙ (λ i. foundOf (associated k (pointsOf spots k.limit) p ms (full b t listed) r (h.places i)) [] (compared k (pointsOf spots k.limit) r (h.places i)))
+    ∙ (λ i. foundOf (h.matcher i) [] (h.counted i))
 
 module _ (k : Fixed) (spots directions : List Float) where
   -- ---- the round
 
-  -- The passes are fine, and the search comes to x.
+  -- The passes are fine, and the search comes to x, with y comparisons.
   pub whole-round :
       (s : State) {rs : List Row} {p : Pose} {n : ℕ} {w : View} {vs : List Float} {st : Statistics} {ms : List ℕ}
       {r : Float}
-      {x : Next} {q : List (List ℕ)} → rows spots directions s.matches ≡ rs
+      {x : Next} {q : List (List ℕ)} {y : ℕ} → rows spots directions s.matches ≡ rs
       → fitPasses 10 k.cut rs s.pose ≡ passesOf p n true →
       Measured k rs p s.matches w vs st ms r →
-      searched k spots directions p ms r s.cache ≡ foundOf x q → round k spots directions s ≡ roundOf x q n
+      searched k spots directions p ms r s.cache ≡ foundOf x q y → round k spots directions s ≡ roundOf x q n y
   unfolding round fitted rest
   whole-round s {rs} {p} {n} {w} {vs} {st} {ms} {r} e f h g =
       let found : List Float → Round = λ v. record { found = rest k spots directions p s.matches s.cache v; passes = n } in
@@ -194,7 +199,7 @@ module _ (k : Fixed) (spots directions : List Float) where
   -- A pass leaves the pose unsound: refusal 12.
   pub unsound-round : (s : State) {rs : List Row} {p : Pose} {n : ℕ} →
       rows spots directions s.matches ≡ rs → fitPasses 10 k.cut rs s.pose ≡ passesOf p n false →
-      round k spots directions s ≡ roundOf (refuse 12) [] n
+      round k spots directions s ≡ roundOf (refuse 12) [] n 0
   unfolding round fitted
   unsound-round s {rs} e f =
       (λ i. fitted k spots directions s (e i) (fitPasses 10 k.cut (e i) s.pose)) ∙
@@ -203,31 +208,32 @@ module _ (k : Fixed) (spots directions : List Float) where
   -- ---- the loop
 
   -- A round after which the loop goes on, is done or refuses, and the loop with no round left.
-  one-round : (n : ℕ) (s : State) {x : Next} {q : List (List ℕ)} {m : ℕ} →
-      round k spots directions s ≡ roundOf x q m → loop k spots directions (suc n) s
-      ≡ carry m q x (λ t. loop k spots directions n t)
+  one-round : (n : ℕ) (s : State) {x : Next} {q : List (List ℕ)} {m y : ℕ} →
+      round k spots directions s ≡ roundOf x q m y → loop k spots directions (suc n) s
+      ≡ carry m q y x (λ t. loop k spots directions n t)
   unfolding loop
-  one-round n s e = λ i. carry (e i).passes (e i).found.queries (e i).found.next (λ t. loop k spots directions n t)
+  one-round n s e = λ i. carry (e i).passes (e i).found.queries (e i).found.comparisons (e i).found.next (λ t. loop k spots directions n t)
 
   pub go-round :
-      (n : ℕ) (s : State) {t : State} {q : List (List ℕ)} {m : ℕ} {z : Ending} {r l : ℕ} {u : List (List ℕ)} →
-      round k spots directions s ≡ roundOf (go t) q m → loop k spots directions n t ≡ ranOf z r l u →
-      loop k spots directions (suc n) s ≡ ranOf z (suc r) (m + l) (q ++ u)
+      (n : ℕ) (s : State) {t : State} {q : List (List ℕ)} {m y : ℕ} {z : Ending} {r l : ℕ} {u : List (List ℕ)} {v : ℕ} →
+      round k spots directions s ≡ roundOf (go t) q m y → loop k spots directions n t ≡ ranOf z r l u v →
+      loop k spots directions (suc n) s ≡ ranOf z (suc r) (m + l) (q ++ u) (max y v)
   unfolding carry
-  go-round n s {t} {q} {m} e f =
-      one-round n s e ∙ (λ i. ranOf (f i).ending (suc (f i).rounds) (m + (f i).passes) (q ++ (f i).queries))
+  go-round n s {t} {q} {m} {y} e f =
+      one-round n s e
+      ∙ (λ i. ranOf (f i).ending (suc (f i).rounds) (m + (f i).passes) (q ++ (f i).queries) (max y (f i).comparisons))
 
-  pub done-round : (n : ℕ) (s : State) {t : State} {q : List (List ℕ)} {m : ℕ} →
-      round k spots directions s ≡ roundOf (done t) q m → loop k spots directions (suc n) s ≡ ranOf (ended t) 1 m q
+  pub done-round : (n : ℕ) (s : State) {t : State} {q : List (List ℕ)} {m y : ℕ} →
+      round k spots directions s ≡ roundOf (done t) q m y → loop k spots directions (suc n) s ≡ ranOf (ended t) 1 m q y
   unfolding carry
   done-round n s e = one-round n s e
 
-  pub refused-round : (n : ℕ) (s : State) {y : ℕ} {q : List (List ℕ)} {m : ℕ} →
-      round k spots directions s ≡ roundOf (refuse y) q m → loop k spots directions (suc n) s ≡ ranOf (refused y) 1 m q
+  pub refused-round : (n : ℕ) (s : State) {z : ℕ} {q : List (List ℕ)} {m y : ℕ} →
+      round k spots directions s ≡ roundOf (refuse z) q m y → loop k spots directions (suc n) s ≡ ranOf (refused z) 1 m q y
   unfolding carry
   refused-round n s e = one-round n s e
 
-  pub no-round : (s : State) → loop k spots directions zero s ≡ ranOf (ended s) 0 0 []
+  pub no-round : (s : State) → loop k spots directions zero s ≡ ranOf (ended s) 0 0 [] 0
   unfolding loop
   no-round s = refl
 
@@ -347,8 +353,8 @@ module _ {c : Call} {k : Fixed} {s : State} (h : Begun c k s) where
   ran e = (λ i. loop (h.same i) c.spots c.directions c.given.rounds (h.begins i)) ∙ e
 
   -- The queries of an accepted call are those of its run, whatever that comes to.
-  pub queried-call : {z : Ending} {r n : ℕ} {q : List (List ℕ)} →
-      loop k c.spots c.directions c.given.rounds s ≡ ranOf z r n q → queries c ≡ q
+  pub queried-call : {z : Ending} {r n : ℕ} {q : List (List ℕ)} {y : ℕ} →
+      loop k c.spots c.directions c.given.rounds s ≡ ranOf z r n q y → queries c ≡ q
   unfolding queries
   queried-call e = (λ i. queriesAfter c (h.accepted i)) ∙ (λ i. (ran e i).queries)
 
@@ -358,26 +364,26 @@ module _ {c : Call} {k : Fixed} {s : State} (h : Begun c k s) where
 
   -- A refusal of the run is the call's.
   pub refused-call :
-      {y r n : ℕ} {q : List (List ℕ)} → loop k c.spots c.directions c.given.rounds s ≡ ranOf (refused y) r n q
-      → outcome c ≡ outcomeOf c (no y)
+      {z r n : ℕ} {q : List (List ℕ)} {y : ℕ} → loop k c.spots c.directions c.given.rounds s ≡ ranOf (refused z) r n q y
+      → outcome c ≡ outcomeOf c (no z)
   unfolding answer finished
   refused-call e = outcome-of ((λ i. answerAfter c (h.accepted i)) ∙ (λ i. finished c (ran e i).ending (ran e i)))
 
   -- An accepted call reports on what the closing leaves.
   pub accepted-call :
-      {t : State} {r n : ℕ} {q : List (List ℕ)} {p : Pose} {ms : List ℕ} {rs : List Row} {w : View} {vs : List Float}
+      {t : State} {r n : ℕ} {q : List (List ℕ)} {y : ℕ} {p : Pose} {ms : List ℕ} {rs : List Row} {w : View} {vs : List Float}
       {sum : Float} {m : Counted} {cd : List (List Float)} {rms : Float} {cov : List (List Float)} →
-      loop k c.spots c.directions c.given.rounds s ≡ ranOf (ended t) r n q →
+      loop k c.spots c.directions c.given.rounds s ≡ ranOf (ended t) r n q y →
       cleaned k c.spots c.directions 3 t.pose t.matches ≡ fine p ms →
       rows c.spots c.directions ms ≡ rs → Reported k p rs w vs sum m cd rms cov →
-      outcome c ≡ outcomeOf c (ok (reportOf p cd rms cov ms) r n (length q))
+      outcome c ≡ outcomeOf c (ok (reportOf p cd rms cov ms) r n (length q) y)
   unfolding answer finished closed
-  accepted-call {t} {r} {n} {q} {p} {ms} {rs} e f g u =
-      let end : Run = ranOf (ended t) r n q in
+  accepted-call {t} {r} {n} {q} {y} {p} {ms} {rs} e f g u =
+      let end : Run = ranOf (ended t) r n q y in
       outcome-of
       ((λ i. answerAfter c (h.accepted i))
       ∙ (λ i. finished c (ran e i).ending (ran e i))
       ∙ (λ i. closed c (cleaned (h.same i) c.spots c.directions 3 t.pose t.matches) end)
       ∙ (λ i. closed c (f i) end)
-      ∙ (λ i. ok (reported (h.same i) p ms (g i)) r n (length q))
-      ∙ (λ i. ok (whole-report ms u i) r n (length q)))
+      ∙ (λ i. ok (reported (h.same i) p ms (g i)) r n (length q) y)
+      ∙ (λ i. ok (whole-report ms u i) r n (length q) y))

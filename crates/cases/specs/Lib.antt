@@ -1,3 +1,4 @@
 pub mod Cases
 pub mod Deciding
 pub mod Lists
+pub mod Orderings

@@ -8,11 +8,12 @@ use Rattle.stats.specs.declared.MedianSigma.{MedianSigma}
 abbrev pub twoPlaces : List Float → MedianSigma → List Float
 twoPlaces l s = set (set l 0 s.median) 1 s.sigma
 
--- A call of the matcher: the number handed back, the lists that it was lent, and the count of matches in the first place of a list.
+-- A call of the matcher: the number handed back, the lists that it was lent, and the counts of matches and of comparisons in the first two places of a
+-- list.
 pub record MatchedTo
     (o : Outcome) (r : ℕ) (distances : List Float) (indices work counts-before counts-after : List ℕ) : Type 0 where
   pub number : r ≡ numberOf o.answer
   pub distances-after : distances ≡ o.distances
   pub indices-after : indices ≡ o.indices
   pub work-after : work ≡ o.work
-  pub counted : counts-after ≡ set counts-before 0 (countOf o.answer)
+  pub counted : counts-after ≡ set (set counts-before 0 (countOf o.answer)) 1 o.comparisons

@@ -14,9 +14,9 @@ rowsOf l =
     ∷ (get_or l 6 nan ∷ get_or l 7 nan ∷ get_or l 8 nan ∷ [])
     ∷ []
 
--- Matches, rounds, passes, queries.
+-- Matches, rounds, passes, queries, and the most comparisons of a round.
 abbrev pub counts : WcsRefineResult → List ℕ
-counts r = r.matches ∷ r.rounds ∷ r.passes ∷ r.queries ∷ []
+counts r = r.matches ∷ r.rounds ∷ r.passes ∷ r.queries ∷ r.comparisons ∷ []
 
 -- Theta, RA, Dec, scale; the matrix by rows; the error; the covariance by rows.
 abbrev pub values : WcsRefineResult → List Float

@@ -20,7 +20,7 @@ fn row_at(rotation: &[f32], i: usize, j: usize, k: usize) -> [f32; 3]
     [x, y, z]
 }
 
-// Matches, rounds, passes, queries.
+// Matches, rounds, passes, queries, and the most comparisons of a round.
 fn put_counts(l: &mut [usize], r: WcsRefineResult)
     ensures { l.new ≡ setFrom 0 (counts r) l.old }
 {
@@ -28,6 +28,7 @@ fn put_counts(l: &mut [usize], r: WcsRefineResult)
     put_number(l, 1, r.rounds);
     put_number(l, 2, r.passes);
     put_number(l, 3, r.queries);
+    put_number(l, 4, r.comparisons);
 }
 
 // Theta, RA, Dec, scale: the first four places.
@@ -78,8 +79,9 @@ fn put_values(l: &mut [f64], r: WcsRefineResult)
     put_three(l, 15, 16, 17, cov2);
 }
 
-// The number of the refusal, or 0. `spots` has x, y and weight of each, `rotation` nine entries, by rows. `counts` takes matches, rounds, passes and
-// queries; `values` takes theta, RA, Dec, scale, the matrix, the error and the covariance: 4 and 18 places, or as many as the lists have.
+// The number of the refusal, or 0. `spots` has x, y and weight of each, `rotation` nine entries, by rows. `counts` takes matches, rounds, passes,
+// queries and the most comparisons of a round; `values` takes theta, RA, Dec, scale, the matrix, the error and the covariance: 5 and 18 places, or as many
+// as the lists have.
 #[unsafe(no_mangle)]
 pub extern "C" fn raqembu_wcs_refine(
     spots: &[f64],

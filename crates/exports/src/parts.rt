@@ -22,7 +22,8 @@ pub extern "C" fn raqembu_median_mad_sigma(vals: &mut [f64], out: &mut [f64])
 }
 
 // 0, or the number of the refusal: 13, more pairs than the candidate lists hold, or 11, too short a `work`. Points and predictions are x and y each:
-// matching knows no weight. How many matches stand in `work` after its marks goes to the first place of `counts`, as far as it has one.
+// matching knows no weight. How many matches stand in `work` after its marks, and how often two pairs were compared to put them in order, goes to
+// the first two places of `counts`, as far as it has them.
 #[unsafe(no_mangle)]
 pub extern "C" fn raqembu_greedy_unique_matches(
     points: &[f64],
@@ -43,8 +44,9 @@ pub extern "C" fn raqembu_greedy_unique_matches(
     let m = matching::greedy_unique_matches(
         points, max_points, predicted, radius_sq, distances, indices, work,
     );
-    put_number(counts, 0, count(m));
-    number(m)
+    put_number(counts, 0, count(m.matched));
+    put_number(counts, 1, m.comparisons);
+    number(m.matched)
 }
 
 fn number(m: Matched) -> usize

@@ -1,7 +1,7 @@
 // Reads, writes and clearings of lent lists that ask nothing of their place.
 #![tactic(auto)]
 
-ghost use Rattle.std.specs.Prelude.{◌≡◌, min, get_or, set};
+ghost use Rattle.std.specs.Prelude.{◌≡◌, min, max, get_or, set};
 ghost use Rattle.std.specs.Float.{binary64, nan};
 ghost use Rattle.std.specs.Float.Ieee.{of_bits};
 ghost use Rattle.lists.specs.Cleared.{cleared};
@@ -10,6 +10,12 @@ pub fn smaller(a: usize, b: usize) -> usize
     ensures { result ≡ min a b }
 {
     if a < b { a } else { b }
+}
+
+pub fn greater(a: usize, b: usize) -> usize
+    ensures { result ≡ max a b }
+{
+    if a < b { b } else { a }
 }
 
 // What stands at a place, and 0 past the end.

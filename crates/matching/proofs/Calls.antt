@@ -5,6 +5,8 @@ use lib.Ieee.{Float}
 use Rattle.pairs.specs.Pairs.{pairs}
 use Rattle.pairs.specs.Candidates.{capacity}
 use Rattle.pairs.specs.Strips.{stripRoom}
+use Rattle.matching.specs.Merge.{notAfter}
+use Rattle.matching.specs.Comparisons.{comparisons}
 use Rattle.matching.specs.Greedy.{Match, Outcome, matchesOf, flat, marks, needed, placed, overfull, greedyUniqueMatches, greedyByStrips}
 use Rattle.matching.specs.declared.Matched.TheVariants.{Matches, TooMany, Short}
 use Rattle.matching.specs.Meaning.{Frame}
@@ -50,7 +52,9 @@ module _ (f : Frame) where
     o = greedyUniqueMatches f.points f.limit f.predicted f.radius-sq distances indices work
 
     abbrev all : Outcome
-    all = placed marked (length (pairs f.points f.limit f.predicted f.radius-sq)) list distances indices work
+    all =
+        placed marked (length (pairs f.points f.limit f.predicted f.radius-sq)) (comparisons notAfter (pairs f.points f.limit f.predicted f.radius-sq))
+        list distances indices work
 
     -- a call that answers matches has placed the list
     answered : (n : ℕ) → o.answer ≡ Matches n → o ≡ all
@@ -60,7 +64,7 @@ module _ (f : Frame) where
         (ltb (capacity distances indices) (length (pairs f.points f.limit f.predicted f.radius-sq))) h
       where
         shorter : Outcome
-        shorter = record { answer = Short; distances = distances; indices = indices; work = work }
+        shorter = record { answer = Short; comparisons = 0; distances = distances; indices = indices; work = work }
 
         by : (s t : Bool) → (cond s shorter (cond t (overfull distances indices work) all)).answer ≡ Matches n
             → cond s shorter (cond t (overfull distances indices work) all) ≡ all
@@ -95,10 +99,16 @@ call-by-strips-meant f d ix w n h =
     inner = o f d ix (drop room w)
 
     behind : Outcome
-    behind = record { answer = inner.answer; distances = inner.distances; indices = inner.indices; work = replicate room 0 ++ inner.work }
+    behind = record {
+      answer = inner.answer;
+      comparisons = inner.comparisons;
+      distances = inner.distances;
+      indices = inner.indices;
+      work = replicate room 0 ++ inner.work;
+    }
 
     shorter : Outcome
-    shorter = record { answer = Short; distances = d; indices = ix; work = w }
+    shorter = record { answer = Short; comparisons = 0; distances = d; indices = ix; work = w }
 
     zeros : List ℕ
     zeros = replicate room 0

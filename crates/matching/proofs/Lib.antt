@@ -1,5 +1,6 @@
 pub mod Runs
 pub mod Passes
+pub mod Counting
 pub mod Marks
 pub mod Merging
 pub mod Whole

@@ -7,31 +7,37 @@ use native.Mathlib.Nat.{not-suc-le-zero, zero-add}
 use native.Mathlib.Omega.{arith}
 use borrow.Author.Tests.{lt-ltb, le-ltb}
 use lib.Ieee.{Float}
-use lib.ListN.{length, take, drop, get_or, replicate, length-drop, length-replicate}
+use mathlib.Core.Bool.{Bool, true, false, ◌||◌}
+use lib.Dec.{ltb}
+use lib.ListN.{length, take, drop, get_or, replicate, length-append, length-drop, length-replicate, replicate-append-replicate}
 use lib.Seq.{slice, length-slice, get_or-take, get_or-drop, take_at, drop_at, take-length, drop-length}
 use Rattle.rounding.specs.Arith.{zero64}
 use Rattle.matching.specs.declared.Matched.{Matched}
 use Rattle.matching.specs.declared.Matched.TheVariants.{Matches, Short}
 use Rattle.pairs.specs.Pairs.{Pair, pairs, pairsFrom, spotsWithin}
-use Rattle.pairs.specs.Elements.{All, SameElements}
+use Rattle.pairs.specs.Elements.{All}
 use Rattle.pairs.specs.Candidates.{capacity, Inside, nothing, laid, Beyond, found, pushed}
-use Rattle.pairs.specs.Strips.{Candidate, stripRoom, pairsNearby, roomAfter}
+use Rattle.pairs.specs.Strips.{stripRoom, pairsNearby, roomAfter}
+use Rattle.pairs.specs.Spots.{bySpot, putBehind, Put}
+use Rattle.lists.specs.Cleared as clearing
 use Rattle.matching.specs.Merge.{notAfter, merged}
+use Rattle.matching.specs.Comparisons.{comparisons}
 use Rattle.matching.specs.Greedy.{Outcome, assigned, flat, cleared, clearedN, needed, placed, overfull, matchesOf, greedyUniqueMatches, greedyByStrips}
 use Rattle.matching.specs.Layout.{taking, Taking, offers, outcome, concluded}
 use Rattle.lists.proofs.Cases.{below_or}
-use Rattle.pairs.proofs.Laying.{laid-get, laid-long, later}
-use Rattle.pairs.proofs.Pushing.{Filled, Overfull, pushed-fits, pushed-over, candidates-inside}
+use Rattle.lists.proofs.Clearing.{cleared-within}
+use Rattle.pairs.proofs.Laying.{laid-get, laid-long, later, then}
+use Rattle.pairs.proofs.Pushing.{Filled, Overfull, pushed-fits, pushed-over, pairs-inside}
 use Rattle.pairs.proofs.Elements.{all_head, all_tail}
 use Rattle.matching.proofs.Merging.{all-merged}
 use Rattle.matching.proofs.Marks.{Taken, offersOf, all-offered, offers-laid}
 use Rattle.matching.proofs.Unique.{same_length}
-use Rattle.pairs.proofs.Rearranged.{candidates}
-use Rattle.pairs.proofs.Nearby.{nearby-same, nearby-candidates}
-use Rattle.matching.proofs.Theorems.{merged-rearranged}
+use Rattle.pairs.proofs.Nearby.{nearby-same}
+use Rattle.pairs.proofs.BySpot.{nearby-by-spot}
 
-same_outcome : {a a' : Matched} {d d' : List Float} {ix ix' w w' : List ℕ} → a ≡ a' → d ≡ d' → ix ≡ ix' → w ≡ w' → outcome a d ix w ≡ outcome a' d' ix' w'
-same_outcome p q r s = cc
+same_outcome : {a a' : Matched} {n n' : ℕ} {d d' : List Float} {ix ix' w w' : List ℕ} → a ≡ a' → n ≡ n' → d ≡ d' → ix ≡ ix' → w ≡ w'
+    → outcome a n d ix w ≡ outcome a' n' d' ix' w'
+same_outcome p c q r s = cc
 
 all-at : {A : Type 0} (P : A → Type 0) (z : A) (l : List A) (k : ℕ) → k < length l → All P l → P (get_or l k z)
 all-at P z [] k h g = absurd (not-suc-le-zero h)
@@ -40,11 +46,11 @@ all-at P z (x ∷ l) (suc k) h g = all-at P z l k (omega arith) (all_tail P g)
 
 -- ---- after the pairs are found
 
-module _ (np nq m : ℕ) (d : List Float) (ix w : List ℕ) (d' : List Float) (ix' : List ℕ) (from : ℕ)
-    (ld : 2 * m ≤ length d') (li : 4 * m ≤ length ix') (inside : All (Inside np nq) (take m (laid d ix)))
-    (ordered : (from ≤ m) × (slice from (from + m) (laid d' ix') ≡ merged notAfter (take m (laid d ix))) × Beyond (2 * m) d ix d' ix') where
+module _ (np nq m : ℕ) (d : List Float) (ix w : List ℕ) (d' : List Float) (ix' : List ℕ) (from c : ℕ) (ps : List Pair)
+    (ld : 2 * m ≤ length d') (li : 4 * m ≤ length ix') (inside : All (Inside np nq) ps)
+    (ordered : (from ≤ m) × (slice from (from + m) (laid d' ix') ≡ merged notAfter ps) × Beyond (2 * m) d ix d' ix' × (c ≡ comparisons notAfter ps)) where
   ordered-inside : All (Inside np nq) (slice from (from + m) (laid d' ix'))
-  ordered-inside = rw ordered.1 (all-merged notAfter (Inside np nq) (take m (laid d ix)) inside)
+  ordered-inside = rw ordered.1 (all-merged notAfter (Inside np nq) ps inside)
 
   -- each pair names a prediction that there is
   pub names-one : (k : ℕ) → k < m → get_or ix' (2 * (from + k) + 1) 0 < nq
@@ -57,19 +63,20 @@ module _ (np nq m : ℕ) (d : List Float) (ix w : List ℕ) (d' : List Float) (i
       rw (at, laid-get d' ix' (from + k) (omega arith) (omega arith)) at in-it.1
 
   pub settled : (t : ℕ) (w' : List ℕ) → np + nq + 2 * min np nq ≤ length w → taking t w' ≡ offers np (np + nq) ix' from m (taking 0 (clearedN (np + nq) w))
-      → outcome (Matches t) (cleared (2 * m) d') (clearedN (4 * m) ix') (clearedN (np + nq) w')
-      ≡ placed (np + nq) m (assigned [] (merged notAfter (take m (laid d ix)))) d ix w
+      → outcome (Matches t) c (cleared (2 * m) d') (clearedN (4 * m) ix') (clearedN (np + nq) w')
+      ≡ placed (np + nq) m (comparisons notAfter ps) (assigned [] (merged notAfter ps)) d ix w
   unfolding placed
   settled t w' room did =
-      let ms = assigned [] (merged notAfter (take m (laid d ix))) in
+      let ms = assigned [] (merged notAfter ps) in
       let e : 2 * (2 * m) ≡ 4 * m = omega arith in
-      let went : taking t w' ≡ offersOf np (np + nq) (taking 0 (clearedN (np + nq) w)) (merged notAfter (take m (laid d ix))) =
+      let went : taking t w' ≡ offersOf np (np + nq) (taking 0 (clearedN (np + nq) w)) (merged notAfter ps) =
       did ∙ offers-laid np (np + nq) d' ix' m from (taking 0 (clearedN (np + nq) w)) (omega arith) (omega arith)
       ∙ ap (offersOf np (np + nq) (taking 0 (clearedN (np + nq) w))) ordered.1 in
       let end = subst (λ (s : Taking). Taken (np + nq) w s (length ms) (flat ms)) (sym went)
-      (all-offered np nq w room (merged notAfter (take m (laid d ix))) (all-merged notAfter (Inside np nq) (take m (laid d ix)) inside)) in
+      (all-offered np nq w room (merged notAfter ps) (all-merged notAfter (Inside np nq) ps inside)) in
       same_outcome
       (ap Matches end.count)
+      ordered.3
       (ap (λ (l : List Float). replicate (2 * m) zero64 ++ l) ordered.2.distances)
       (ap (λ (l : List ℕ). replicate (4 * m) 0 ++ l) (rw e at ordered.2.indices))
       (ap (λ (l : List ℕ). replicate (np + nq) 0 ++ l) end.matches ∙ sym (append_assoc (replicate (np + nq) 0) (flat ms) (drop (np + nq + 2 * length ms) w)))
@@ -97,45 +104,87 @@ module _ (cap : ℕ) (ps : List Pair) (d : List Float) (ix : List ℕ) (ld : cap
       (λ (q : length ps ≤ cap). (q, (filled q).0, (filled q).1, (filled q).2))
       (below_or cap (length ps))
 
--- Pairs were pushed, in some order: those within the radius of the first np spots and the predictions, `cap` of them at the most.
-pub record Gathered (np cap : ℕ) (r2 : Float) (points predicted : List Float) (d : List Float) (ix : List ℕ) (d' : List Float) (ix' : List ℕ) (r : ℕ) : Type 0 where
-  pub list : List Pair
-  pub same : SameElements list (pairsFrom r2 points predicted 0 np)
-  pub made : All (Candidate np points predicted r2) list
-  pub pushed : found r d' ix' ≡ pushed cap (found 0 d ix) list
+-- r pairs were found. Where they are at most `cap`, they are the pairs within the radius of the first np spots and the predictions, by spot and then
+-- prediction, and stand from place `from` on; else there are more than `cap` of those.
+pub record Gathered (np cap : ℕ) (r2 : Float) (points predicted : List Float) (d : List Float) (ix : List ℕ) (d' : List Float) (ix' : List ℕ) (r from : ℕ) : Type 0 where
+  pub over : cap < r → (cap < length (pairsFrom r2 points predicted 0 np)) × Beyond cap d ix d' ix'
+  pub fit : r ≤ cap
+      → (slice from (from + r) (laid d' ix') ≡ pairsFrom r2 points predicted 0 np) × (r ≡ length (pairsFrom r2 points predicted 0 np)) × Beyond (2 * r) d ix d' ix'
 
 module _ (points : List Float) (limit : ℕ) (predicted : List Float) (r2 : Float) (d : List Float) (ix : List ℕ)
     (np cap : ℕ) (spots : np ≡ spotsWithin points limit) (most : cap ≡ capacity d ix) (d' : List Float) (ix' : List ℕ) (r : ℕ) where
-  -- all pairs in their own order are gathered
-  pub in-turn : found r d' ix' ≡ pushed (capacity d ix) (found 0 d ix) (pairs points limit predicted r2) → Gathered np cap r2 points predicted d ix d' ix' r
+  abbrev ps : List Pair
+  ps = pairsFrom r2 points predicted 0 np
+
+  -- all pairs, found in their own order
+  pub in-turn : found r d' ix' ≡ pushed (capacity d ix) (found 0 d ix) (pairs points limit predicted r2) → Gathered np cap r2 points predicted d ix d' ix' r 0
   unfolding pairs
   in-turn did =
-      rw (spots, most)
-      (record { list = pairs points limit predicted r2; same = λ t. refl; made = candidates (spotsWithin points limit) points predicted r2; pushed = did })
+      let made : found r d' ix' ≡ pushed cap (found 0 d ix) ps = rw (spots, most) did in
+      record {
+        over = too-full cap ps d ix (omega arith) (omega arith) r d' ix' made;
+        fit = λ h.
+            let f = all_there cap ps d ix (omega arith) (omega arith) r d' ix' made h in
+            (rw (zero-add r) f.1, f.2, later (2 * r) (omega arith) f.3);
+      }
 
-  -- and so are those that are found by strips
-  pub by-strips : (places : ℕ) → found r d' ix' ≡ pushed (capacity d ix) (found 0 d ix) (pairsNearby points limit predicted r2 places)
-      → Gathered np cap r2 points predicted d ix d' ix' r
-  unfolding pairs
-  by-strips places did =
-      rw (spots, most)
-      (record {
-        list = pairsNearby points limit predicted r2 places;
-        same = nearby-same points limit predicted r2 places;
-        made = nearby-candidates points limit predicted r2 places;
-        pushed = did;
-      })
+  -- and those found by strips, put by spot behind themselves
+  module _ (places : ℕ) (did : found r d' ix' ≡ pushed (capacity d ix) (found 0 d ix) (pairsNearby points limit predicted r2 places))
+      (kd : length d' ≡ length d) (ki : length ix' ≡ length ix) (e : List Float) (jx v v' : List ℕ) (put : Put r np d' ix' v e jx v') (lw : np ≤ length v) where
+    abbrev list : List Pair
+    list = pairsNearby points limit predicted r2 places
+
+    made : found r d' ix' ≡ pushed cap (found 0 d ix) list
+    made = rw most did
+
+    as_many : length list ≡ length ps
+    unfolding pairs
+    as_many = rw spots (same_length list (pairs points limit predicted r2) (nearby-same points limit predicted r2 places))
+
+    sorted : bySpot 0 np list ≡ ps
+    unfolding pairs
+    sorted = rw spots (nearby-by-spot points limit predicted r2 places)
+
+    -- whether they were left where they were found
+    abbrev left : Bool
+    left = ltb (capacity d' ix') r || ltb (length v) np
+
+    too-many-found : cap < r → (cap < length ps) × Beyond cap d ix e jx
+    too-many-found h =
+        let f = too-full cap list d ix (omega arith) (omega arith) r d' ix' made h in
+        let t : left ≡ true = rw (kd, ki, ← most, lt-ltb cap r h) refl in
+        (omega (arith, as_many, f.0), then f.1 (later cap (omega arith) (rw t at put.others)))
+
+    moved : r ≤ cap → left ≡ false
+    moved h = rw (kd, ki, ← most, le-ltb cap r h, le-ltb (length v) np lw) refl
+
+    stand : r ≤ cap → take r (laid d' ix') ≡ list → laid e jx ≡ list ++ ps ++ drop (r + length ps) (laid d' ix')
+    unfolding putBehind
+    stand h f = rw (moved h, f, sorted) at put.moved
+
+    all-found : r ≤ cap → (slice r (r + r) (laid e jx) ≡ ps) × (r ≡ length ps) × Beyond (2 * r) d ix e jx
+    all-found h =
+        let f = all_there cap list d ix (omega arith) (omega arith) r d' ix' made h in
+        let count = f.2 ∙ as_many in
+        let rest = drop (r + length ps) (laid d' ix') in (
+          rw (stand h f.1, take_at (list ++ ps) rest (r + r) (omega (arith, length-append list ps))) (drop_at list ps r (sym f.2)),
+          count,
+          then (later (2 * r) (omega arith) f.3) (rw (moved h) at put.others),
+        )
+
+    pub by-strips : Gathered np cap r2 points predicted d ix e jx r r
+    by-strips = record { over = too-many-found; fit = all-found }
 
 -- ---- the whole call
 
 -- The code's numbers: the spots that are looked at, and how many matches there can be.
 module _ (points : List Float) (limit : ℕ) (predicted : List Float) (r2 : Float) (d : List Float) (ix w : List ℕ)
     (np least : ℕ) (spots : np ≡ spotsWithin points limit) (lesser : least ≡ min np (length predicted / 2)) where
-  pub too_short : length w < np + length predicted / 2 + 2 * least → outcome Short d ix w ≡ greedyUniqueMatches points limit predicted r2 d ix w
+  pub too_short : length w < np + length predicted / 2 + 2 * least → outcome Short 0 d ix w ≡ greedyUniqueMatches points limit predicted r2 d ix w
   unfolding greedyUniqueMatches
   too_short h = rw (lt-ltb _ _ (rw (lesser, spots) at h))
 
-  pub too-short-for-strips : length w < 2 * np + np + length predicted / 2 + 2 * least → outcome Short d ix w ≡ greedyByStrips points limit predicted r2 d ix w
+  pub too-short-for-strips : length w < 2 * np + np + length predicted / 2 + 2 * least → outcome Short 0 d ix w ≡ greedyByStrips points limit predicted r2 d ix w
   unfolding greedyByStrips
   too-short-for-strips h = rw (← spots, ← lesser, lt-ltb (length w) (2 * np + (np + length predicted / 2 + 2 * least)) (omega arith))
 
@@ -143,67 +192,77 @@ module _ (points : List Float) (limit : ℕ) (predicted : List Float) (r2 : Floa
 behind-strips : (points : List Float) (limit : ℕ) (predicted : List Float) (r2 : Float) (d : List Float) (ix w : List ℕ)
     → stripRoom points limit + needed points limit predicted ≤ length w → (o : Outcome)
     → o ≡ greedyUniqueMatches points limit predicted r2 d ix (drop (stripRoom points limit) w)
-    → outcome o.answer o.distances o.indices (replicate (stripRoom points limit) 0 ++ o.work) ≡ greedyByStrips points limit predicted r2 d ix w
+    → outcome o.answer o.comparisons o.distances o.indices (replicate (stripRoom points limit) 0 ++ o.work) ≡ greedyByStrips points limit predicted r2 d ix w
 unfolding greedyByStrips
 behind-strips points limit predicted r2 d ix w fits o e =
-    rw (le-ltb (length w) _ fits) (ap (λ (o : Outcome). outcome o.answer o.distances o.indices (replicate (stripRoom points limit) 0 ++ o.work)) e)
+    rw (le-ltb (length w) _ fits) (ap (λ (o : Outcome). outcome o.answer o.comparisons o.distances o.indices (replicate (stripRoom points limit) 0 ++ o.work)) e)
 
--- The pairs were gathered, in whatever order, and `cap` of them fit.
+-- The pairs were gathered, and `cap` of them fit.
 module _ (points : List Float) (limit : ℕ) (predicted : List Float) (r2 : Float) (d : List Float) (ix : List ℕ)
     (np cap : ℕ) (spots : np ≡ spotsWithin points limit) (most : cap ≡ capacity d ix)
-    (r : ℕ) (d' : List Float) (ix' : List ℕ) (did : Gathered np cap r2 points predicted d ix d' ix' r) where
+    (r from : ℕ) (d' : List Float) (ix' : List ℕ) (did : Gathered np cap r2 points predicted d ix d' ix' r from) where
   abbrev nq : ℕ
   nq = length predicted / 2
 
   -- where they all fit, they are what is ordered and assigned
-  pub given : r ≤ cap → All (Inside np nq) (take r (laid d' ix'))
-  given h =
-      let f = all_there cap did.list d ix (omega arith) (omega arith) r d' ix' did.pushed h in
-      rw f.1 (candidates-inside np r2 points predicted did.list did.made)
-
-  -- they are as many as all pairs, found in their order
-  as_many : length did.list ≡ length (pairsFrom r2 points predicted 0 np)
-  as_many = same_length did.list (pairsFrom r2 points predicted 0 np) did.same
+  pub given : r ≤ cap → All (Inside np nq) (slice from (from + r) (laid d' ix'))
+  given h = rw (did.fit h).0 (pairs-inside np r2 points predicted np 0 (omega arith))
 
   module _ (w : List ℕ) (room : needed points limit predicted ≤ length w) where
-    too_many : cap < r → concluded np nq cap r d' ix' w ≡ greedyUniqueMatches points limit predicted r2 d ix w
+    too_many : cap < r → concluded np nq cap r from d' ix' w ≡ greedyUniqueMatches points limit predicted r2 d ix w
     unfolding concluded greedyUniqueMatches pairs overfull
     too_many h =
-        let f = too-full cap did.list d ix (omega arith) (omega arith) r d' ix' did.pushed h in
-        rw (lt-ltb cap r h, le-ltb (length w) _ room, ← spots, ← most, ← as_many, lt-ltb cap _ f.0)
-        (same_outcome refl
+        let f = did.over h in
+        rw (lt-ltb cap r h, le-ltb (length w) _ room, ← spots, ← most, lt-ltb cap _ f.0)
+        (same_outcome refl refl
         (ap (λ (l : List Float). replicate cap zero64 ++ l) f.1.distances)
         (ap (λ (l : List ℕ). replicate (2 * cap) 0 ++ l) f.1.indices)
         refl)
 
-    all_fit : r ≤ cap → concluded np nq cap r d' ix' w ≡ greedyUniqueMatches points limit predicted r2 d ix w
+    all_fit : r ≤ cap → concluded np nq cap r from d' ix' w ≡ greedyUniqueMatches points limit predicted r2 d ix w
     unfolding concluded greedyUniqueMatches pairs matchesOf placed
     all_fit h =
-        let f = all_there cap did.list d ix (omega arith) (omega arith) r d' ix' did.pushed h in
-        let b = later (2 * r) (omega arith) f.3 in
+        let f = did.fit h in
+        let b = f.2 in
         let e : 2 * (2 * r) ≡ 4 * r = omega arith in
-        let count = f.2 ∙ as_many in
-        let order = ap (merged notAfter) f.1 ∙ merged-rearranged np points predicted r2 did.list did.made did.same in
+        let count = f.1 in
         rw (le-ltb cap r h)
-        (ap (λ (l : List Pair). placed (np + nq) r (assigned [] l) d' ix' w) order
+        (ap (λ (l : List Pair). placed (np + nq) r (comparisons notAfter l) (assigned [] (merged notAfter l)) d' ix' w) f.0
         ∙ rw (le-ltb (length w) _ room, ← spots, ← most, le-ltb cap (length (pairsFrom r2 points predicted 0 np)) (omega arith), ← count)
-        (same_outcome refl
+        (same_outcome refl refl
         (ap (λ (l : List Float). replicate (2 * r) zero64 ++ l) b.distances)
         (ap (λ (l : List ℕ). replicate (4 * r) 0 ++ l) (rw e at b.indices))
         refl))
 
     -- so it is the same answer in both cases
-    concluded-whole : concluded np nq cap r d' ix' w ≡ greedyUniqueMatches points limit predicted r2 d ix w
+    concluded-whole : concluded np nq cap r from d' ix' w ≡ greedyUniqueMatches points limit predicted r2 d ix w
     concluded-whole = ⊎_elim too_many all_fit (below_or cap r)
 
   -- the same, from the numbers that the code compares
   pub answered : (w : List ℕ) (least : ℕ) → least ≡ min np nq → np + nq + 2 * least ≤ length w → (o : Outcome)
-      → o ≡ concluded np nq cap r d' ix' w → o ≡ greedyUniqueMatches points limit predicted r2 d ix w
+      → o ≡ concluded np nq cap r from d' ix' w → o ≡ greedyUniqueMatches points limit predicted r2 d ix w
   answered w least lesser room o done = done ∙ concluded-whole w (rw (lesser, spots) at room)
 
   -- ---- with room for strips
 
-  -- The strips stood in front; there the list is cleared, and behind it is as before. That rest is lent and comes back.
+  -- the places of the spots are cleared where the strips had been cleared
+  pub room-again : (w v v' : List ℕ) → 2 * np ≤ length w → v ≡ roomAfter points limit w → v' ≡ clearing.cleared 0 np v → v' ≡ roomAfter points limit w
+  unfolding roomAfter
+  room-again w v v' fits left again =
+      let z : v ≡ replicate (2 * np) 0 ++ drop (2 * np) w = left ∙ rw (← spots, le-ltb (length w) (2 * np) fits) in
+      let t : np + np ≡ 2 * np = omega arith in
+      let s : replicate (2 * np) 0 ++ drop (2 * np) w ≡ replicate np 0 ++ (replicate np 0 ++ drop (2 * np) w) =
+      ap (λ (l : List ℕ). l ++ drop (2 * np) w) (sym (rw t at (replicate-append-replicate {A = ℕ} np np 0)))
+      ∙ append_assoc (replicate np 0) (replicate np 0) (drop (2 * np) w) in
+      let long : np ≤ length v = rw (z ∙ s) (simp (length-append, length-replicate) (omega arith)) in
+      again
+      ∙ cleared-within 0 np v long
+      ∙ ap (λ (l : List ℕ). replicate np 0 ++ drop np l) (z ∙ s)
+      ∙ ap (λ (l : List ℕ). replicate np 0 ++ l) (drop_at (replicate np 0) (replicate np 0 ++ drop (2 * np) w) np (length-replicate np 0))
+      ∙ sym (z ∙ s)
+      ∙ left
+
+  -- The strips, and the places of the spots, stood in front; there the list is cleared, and behind it is as before. That rest is lent and comes back.
   module _ (w v : List ℕ) (least : ℕ) (lesser : least ≡ min np nq) (fits : 2 * np + np + nq + 2 * least ≤ length w) (left : v ≡ roomAfter points limit w) where
     left-zero : v ≡ replicate (2 * np) 0 ++ drop (2 * np) w
     unfolding roomAfter
@@ -227,10 +286,10 @@ module _ (points : List Float) (limit : ℕ) (predicted : List Float) (r2 : Floa
     pub enough-lent : np + nq + 2 * min np nq ≤ length (take (length v - 2 * np) (drop (2 * np) v))
     enough-lent = rw lent-rest (rw (← spots) at enough-behind)
 
-    pub answered-by-strips : (a : Matched) (e : List Float) (jx l : List ℕ)
-        → outcome a e jx l ≡ concluded np nq cap r d' ix' (take (length v - 2 * np) (drop (2 * np) v))
-        → outcome a e jx (take (2 * np) v ++ (l ++ drop (length v - 2 * np) (drop (2 * np) v))) ≡ greedyByStrips points limit predicted r2 d ix w
-    answered-by-strips a e jx l done =
+    pub answered-by-strips : (a : Matched) (n : ℕ) (e : List Float) (jx l : List ℕ)
+        → outcome a n e jx l ≡ concluded np nq cap r from d' ix' (take (length v - 2 * np) (drop (2 * np) v))
+        → outcome a n e jx (take (2 * np) v ++ (l ++ drop (length v - 2 * np) (drop (2 * np) v))) ≡ greedyByStrips points limit predicted r2 d ix w
+    answered-by-strips a n e jx l done =
         let fits' : stripRoom points limit + needed points limit predicted ≤ length w = rw (← spots, ← lesser) (omega arith) in
         let whole = (rw lent-rest at done) ∙ concluded-whole (drop (2 * np) w) enough-behind in
-        rw (rest_back l, spots) (behind-strips points limit predicted r2 d ix w fits' (outcome a e jx l) (rw spots at whole))
+        rw (rest_back l, spots) (behind-strips points limit predicted r2 d ix w fits' (outcome a n e jx l) (rw spots at whole))

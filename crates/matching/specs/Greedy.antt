@@ -5,6 +5,7 @@ use Rattle.pairs.specs.Pairs.{Pair, pairs, spotsWithin}
 use Rattle.pairs.specs.Candidates.{capacity}
 use Rattle.pairs.specs.Strips.{stripRoom}
 use Rattle.matching.specs.Merge.{notAfter, merged}
+use Rattle.matching.specs.Comparisons.{comparisons}
 use Rattle.matching.specs.declared.Matched.{Matched}
 use Rattle.matching.specs.declared.Matched.TheVariants.{Matches, TooMany, Short}
 
@@ -54,27 +55,30 @@ marks points limit predicted = spotsWithin points limit + length predicted / 2
 abbrev pub needed : List Float → ℕ → List Float → ℕ
 needed points limit predicted = marks points limit predicted + 2 * min (spotsWithin points limit) (length predicted / 2)
 
--- What a call answers, and what the lists written to hold afterwards.
+-- What a call answers, how often it compared two pairs to put them in order (02, CR 14), and what the lists written to hold afterwards.
 pub record Outcome : Type 0 where
   pub answer : Matched
+  pub comparisons : ℕ
   pub distances : List Float
   pub indices : List ℕ
   pub work : List ℕ
 
 -- The pairs that fit are assigned: the matches stand in `work` after the marks, which are left zero, as are the places that held pairs.
-unfoldable pub placed : ℕ → ℕ → List Match → List Float → List ℕ → List ℕ → Outcome
+unfoldable pub placed : ℕ → ℕ → ℕ → List Match → List Float → List ℕ → List ℕ → Outcome
 unfolding flat
-placed marked count ms distances indices work = record {
+placed marked count compared ms distances indices work = record {
   answer = Matches (length ms);
+  comparisons = compared;
   distances = cleared (2 * count) distances;
   indices = clearedN (4 * count) indices;
   work = replicate marked 0 ++ flat ms ++ drop (marked + 2 * length ms) work;
 }
 
--- More pairs than the lists hold: nothing is matched, and the places that held pairs are left zero.
+-- More pairs than the lists hold: nothing is ordered or matched, and the places that held pairs are left zero.
 unfoldable pub overfull : List Float → List ℕ → List ℕ → Outcome
 overfull distances indices work = record {
   answer = TooMany;
+  comparisons = 0;
   distances = cleared (capacity distances indices) distances;
   indices = clearedN (2 * capacity distances indices) indices;
   work = work;
@@ -82,13 +86,14 @@ overfull distances indices work = record {
 
 -- `greedy_unique_matches` whole, with its lists lent. A `work` list that is too short is answered first, and nothing is written.
 unfoldable pub greedyUniqueMatches : List Float → ℕ → List Float → Float → List Float → List ℕ → List ℕ → Outcome
-unfolding pairs matchesOf placed overfull
+unfolding pairs matchesOf placed overfull comparisons notAfter
 greedyUniqueMatches points limit predicted r2 distances indices work =
     cond (ltb (length work) (needed points limit predicted))
-    (record { answer = Short; distances = distances; indices = indices; work = work })
+    (record { answer = Short; comparisons = 0; distances = distances; indices = indices; work = work })
     (cond (ltb (capacity distances indices) (length (pairs points limit predicted r2)))
     (overfull distances indices work)
     (placed (marks points limit predicted) (length (pairs points limit predicted r2))
+    (comparisons notAfter (pairs points limit predicted r2))
     (matchesOf points limit predicted r2) distances indices work))
 
 -- ---- with room for strips
@@ -98,12 +103,13 @@ unfoldable pub greedyByStrips : List Float → ℕ → List Float → Float → 
 unfolding greedyUniqueMatches
 greedyByStrips points limit predicted r2 distances indices work =
     cond (ltb (length work) (stripRoom points limit + needed points limit predicted))
-    (record { answer = Short; distances = distances; indices = indices; work = work })
+    (record { answer = Short; comparisons = 0; distances = distances; indices = indices; work = work })
     (behind (greedyUniqueMatches points limit predicted r2 distances indices (drop (stripRoom points limit) work)))
   where
     behind : Outcome → Outcome
     behind o = record {
       answer = o.answer;
+      comparisons = o.comparisons;
       distances = o.distances;
       indices = o.indices;
       work = replicate (stripRoom points limit) 0 ++ o.work;

@@ -1,4 +1,5 @@
 pub mod Merge
+pub mod Comparisons
 pub mod Greedy
 pub mod Answer
 pub mod Ordered

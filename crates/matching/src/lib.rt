@@ -1,8 +1,10 @@
 // Greedy one-to-one matching of spots with predictions: `greedy_unique_matches` of the Rust's solver/matching.rs, for f64.
 #![tactic(auto)]
 
-ghost use Rattle.std.specs.Prelude.{◌≡◌, [], ◌+◌, ◌*◌, ◌≤◌, min, length, take};
+ghost use Rattle.std.specs.Prelude.{◌≡◌, ◌⊎◌, [], ◌+◌, ◌*◌, ◌≤◌, min, length};
+ghost use Rattle.std.proofs.Math.Seq.{slice};
 ghost use Rattle.matching.specs.Merge.{notAfter, merged};
+ghost use Rattle.matching.specs.Comparisons.{comparisons};
 ghost use Rattle.matching.specs.Greedy.{Outcome, assigned, placed, greedyUniqueMatches, greedyByStrips};
 ghost use Rattle.pairs.specs.Elements.{All};
 ghost use Rattle.pairs.specs.Candidates.{Inside, laid};
@@ -22,58 +24,83 @@ pub enum Matched {
     Short,
 }
 
-// The first m pairs of the candidate lists are put in order and offered; the marks and the candidate places are left zero.
-// How many matches stand after the marks is the result.
+// What a call of the matcher answers, and how often it compared two pairs to put them in order: 0 where it ordered none.
+#[derive(Clone, Copy)]
+pub struct Matching {
+    pub matched: Matched,
+    pub comparisons: usize,
+}
+
+// An answer that no ordering came before.
+fn unordered(matched: Matched) -> Matching
+    ensures { (result.matched ≡ matched) × (result.comparisons ≡ 0) }
+{
+    Matching {
+        matched,
+        comparisons: 0,
+    }
+}
+
+// m pairs of the candidate lists, from place `from` on, are put in order and offered; the marks and the candidate places are left zero. That many matches
+// stand after the marks.
 fn settle(
     np: usize,
     nq: usize,
     m: usize,
+    from: usize,
     distances: &mut [f64],
     indices: &mut [usize],
     work: &mut [usize],
-) -> usize
+) -> Matching
     requires { (2 * m ≤ length distances.old)
         × (4 * m ≤ length indices.old)
+        × ((from ≡ 0) ⊎ (from ≡ m))
         × (np + nq + 2 * min np nq ≤ length work.old)
-        × All (Inside np nq) (take m (laid distances.old indices.old)) }
-    ensures { outcome (Matched.Matches result) distances.new indices.new work.new
+        × All (Inside np nq) (slice from (from + m) (laid distances.old indices.old)) }
+    ensures { outcome result.matched result.comparisons distances.new indices.new work.new
         ≡ placed (np + nq) m
-        (assigned [] (merged notAfter (take m (laid distances.old indices.old))))
+        (comparisons notAfter (slice from (from + m) (laid distances.old indices.old)))
+        (assigned [] (merged notAfter (slice from (from + m) (laid distances.old indices.old))))
         distances.old indices.old work.old }
 {
     let marked = np + nq;
-    let from = merge::order(distances, indices, m);
+    let o = merge::order(distances, indices, m, from);
     lists::clear_numbers(work, marked);
-    let t = assign::assign(&indices[..], from, m, np, marked, work);
+    let t = assign::assign(&indices[..], o.at, m, np, marked, work);
     lists::clear_numbers(work, marked);
     lists::clear_floats(distances, 2 * m);
     lists::clear_numbers(indices, 4 * m);
-    t
+    Matching {
+        matched: Matched::Matches(t),
+        comparisons: o.compared,
+    }
 }
 
-// What is answered once m pairs were found, and `cap` of them stand in the candidate lists at the most.
+// What is answered once m pairs were found. `cap` of them stand in the candidate lists at the most; where they all do, they stand from place `from` on.
 fn concluded(
     np: usize,
     nq: usize,
     cap: usize,
     m: usize,
+    from: usize,
     distances: &mut [f64],
     indices: &mut [usize],
     work: &mut [usize],
-) -> Matched
+) -> Matching
     requires { (2 * cap ≤ length distances.old)
         × (4 * cap ≤ length indices.old)
+        × ((from ≡ 0) ⊎ (from ≡ m))
         × (np + nq + 2 * min np nq ≤ length work.old)
-        × (m ≤ cap → All (Inside np nq) (take m (laid distances.old indices.old))) }
-    ensures { outcome result distances.new indices.new work.new
-        ≡ concluded np nq cap m distances.old indices.old work.old }
+        × (m ≤ cap → All (Inside np nq) (slice from (from + m) (laid distances.old indices.old))) }
+    ensures { outcome result.matched result.comparisons distances.new indices.new work.new
+        ≡ concluded np nq cap m from distances.old indices.old work.old }
 {
     if cap < m {
         lists::clear_floats(distances, cap);
         lists::clear_numbers(indices, 2 * cap);
-        return Matched::TooMany;
+        return unordered(Matched::TooMany);
     }
-    Matched::Matches(settle(np, nq, m, distances, indices, work))
+    settle(np, nq, m, from, distances, indices, work)
 }
 
 // Matches the spots, the first `max_points` of them, with the predictions: pairs within the radius are taken nearest first,
@@ -87,10 +114,11 @@ pub fn greedy_unique_matches(
     distances: &mut [f64],
     indices: &mut [usize],
     work: &mut [usize],
-) -> Matched
+) -> Matching
     ensures { ◌≡◌ {A = Outcome}
         (record {
-          answer = result;
+          answer = result.matched;
+          comparisons = result.comparisons;
           distances = distances.new;
           indices = indices.new;
           work = work.new;
@@ -101,11 +129,11 @@ pub fn greedy_unique_matches(
     let np = pairs::spots_within(points, max_points);
     let nq = predicted.len() / 2;
     if work.len() < np + nq + 2 * lists::smaller(np, nq) {
-        return Matched::Short;
+        return unordered(Matched::Short);
     }
     let cap = lists::smaller(distances.len() / 2, indices.len() / 4);
     let m = pairs::collect(points, max_points, predicted, radius_sq, distances, indices);
-    concluded(np, nq, cap, m, distances, indices, work)
+    concluded(np, nq, cap, m, 0, distances, indices, work)
 }
 
 // The same matches, found more quickly: `work` has room in front of the marks, two places for each spot, where the spots are sorted into strips, so
@@ -118,10 +146,11 @@ pub fn greedy_unique_matches_by_strips(
     distances: &mut [f64],
     indices: &mut [usize],
     work: &mut [usize],
-) -> Matched
+) -> Matching
     ensures { ◌≡◌ {A = Outcome}
         (record {
-          answer = result;
+          answer = result.matched;
+          comparisons = result.comparisons;
           distances = distances.new;
           indices = indices.new;
           work = work.new;
@@ -133,11 +162,12 @@ pub fn greedy_unique_matches_by_strips(
     let nq = predicted.len() / 2;
     let room = 2 * np;
     if work.len() < room + np + nq + 2 * lists::smaller(np, nq) {
-        return Matched::Short;
+        return unordered(Matched::Short);
     }
     let cap = lists::smaller(distances.len() / 2, indices.len() / 4);
     let m = pairs::collect_by_strips(
         points, max_points, predicted, radius_sq, distances, indices, work,
     );
-    concluded(np, nq, cap, m, distances, indices, &mut work[room..])
+    pairs::put_by_spot(distances, indices, m, np, work);
+    concluded(np, nq, cap, m, m, distances, indices, &mut work[room..])
 }

@@ -7,3 +7,7 @@ pub mod Rearranged
 pub mod Pushing
 pub mod Threads
 pub mod Nearby
+pub mod BySpot
+pub mod Sorting
+pub mod Spreading
+pub mod Scattering

@@ -214,36 +214,3 @@ module _ (n : ℕ) (points predicted : List Float) (r2 : Float) where
 
   pub candidates : All Good (pairsFrom r2 points predicted 0 n)
   candidates = candidates-from 0 n (omega arith)
-
-  module _ (g : Strips) where
-    -- the spots of a strip, out of the first m
-    strip-good : (j s m : ℕ) → m ≤ n → j < length predicted / 2 → All Good (pairsAlong r2 points j (pointAt predicted j) (inStrip g points s m))
-    unfolding inStrip pairsAlong
-    strip-good j s zero h q = none
-    strip-good j s (suc m) h q = by (eqb (stripOf g (pointAt points m).x) s) (strip-good j s m (omega arith) q)
-      where
-        by : (b : Bool) → All Good (pairsAlong r2 points j (pointAt predicted j) (inStrip g points s m))
-            → All Good (pairsAlong r2 points j (pointAt predicted j) (cond b (m ∷ inStrip g points s m) (inStrip g points s m)))
-        by true rest =
-            within-near Good r2 (pair_at points predicted m j) (pairsAlong r2 points j (pointAt predicted j) (inStrip g points s m)) (pair-good m j h q) rest
-        by false rest = rest
-
-    across-good : (j s k : ℕ) → j < length predicted / 2 → All Good (pairsAcross g r2 points n j (pointAt predicted j) s k)
-    unfolding pairsAcross
-    across-good j s zero q = none
-    across-good j s (suc k) q =
-        all_append Good (pairsAlong r2 points j (pointAt predicted j) (inStrip g points s n)) (pairsAcross g r2 points n j (pointAt predicted j) (suc s) k)
-        (strip-good j s n (omega arith) q) (across-good j (suc s) k q)
-
-    near-good : (j : ℕ) → j < length predicted / 2 → All Good (pairsNear g r2 points n j (pointAt predicted j))
-    near-good j q = across-good j _ _ q
-
-    by-strips-good : (j k : ℕ) → j + k ≤ length predicted / 2 → All Good (pairsByStrips g r2 points predicted n j k)
-    unfolding pairsByStrips
-    by-strips-good j zero h = none
-    by-strips-good j (suc k) h =
-        all_append Good (pairsNear g r2 points n j (pointAt predicted j)) (pairsByStrips g r2 points predicted n (suc j) k)
-        (near-good j (omega arith)) (by-strips-good (suc j) k (omega arith))
-
-    pub made : All (Candidate n points predicted r2) (pairsByStrips g r2 points predicted n 0 (length predicted / 2))
-    made = by-strips-good 0 (length predicted / 2) (omega arith)

@@ -2,3 +2,4 @@ pub mod Pairs
 pub mod Elements
 pub mod Candidates
 pub mod Strips
+pub mod Spots

@@ -6,8 +6,11 @@ ghost use Rattle.pairs.specs.Pairs.{pairs, spotsWithin};
 ghost use Rattle.pairs.specs.Candidates.{capacity, found, pushed};
 ghost use Rattle.pairs.specs.Strips.{pairsNearby, roomAfter};
 
+mod by_spot; // by_spot.rt: the pairs found, put by spot
 mod pairs; // pairs.rt: all pairs, tried in turn
 mod strips; // strips.rt: the pairs found by strips
+
+pub use by_spot::put_by_spot;
 
 // The spots that are looked at: the first `max_points` of them.
 pub fn spots_within(points: &[f64], max_points: usize) -> usize
@@ -45,6 +48,8 @@ pub fn collect(
 
 // The same pairs in another order, found more quickly: `work` has room, two places for each spot, where the spots are sorted into strips, so that a
 // prediction is tried only with the spots of the strips near it. That room is left zero. Where it is too short all pairs are tried.
+// Not made part of its callers: by itself its loops are compiled with fewer loads.
+#[inline(never)]
 pub fn collect_by_strips(
     points: &[f64],
     max_points: usize,

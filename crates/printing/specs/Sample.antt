@@ -29,6 +29,7 @@ sampleAnswer = record {
   rounds = 0;
   passes = 0;
   queries = 0;
+  comparisons = 0;
   pose = record { theta = zero64; ra = zero64; dec = zero64; scale = tick };
   cd0 = tick ∷ f64 0x8000000000000000 ∷ [];
   cd1 = zero64 ∷ tick ∷ [];

@@ -124,6 +124,7 @@ fn same_counts(a: WcsRefineResult, b: WcsRefineResult) -> bool {
         && a.rounds == b.rounds
         && a.passes == b.passes
         && a.queries == b.queries
+        && a.comparisons == b.comparisons
 }
 
 fn same_pose(a: WcsRefineResult, b: WcsRefineResult) -> bool {

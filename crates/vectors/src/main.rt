@@ -23,7 +23,7 @@ fn main(rt: HostRuntime) {
         "sqrt64.txt sqrt32.txt narrow.txt widen.txt methods.txt",
     );
     each_file(&rt, "sin.txt cos.txt cos32.txt atan.txt asin.txt atan2.txt");
-    each_file(&rt, "medians.txt matches.txt capacity.txt");
+    each_file(&rt, "medians.txt matches.txt capacity.txt orderings.txt");
     each_file(
         &rt,
         "tan_project.txt inverse_tan_project.txt rotations.txt wcs_to_rotation.txt",

@@ -1,10 +1,11 @@
 // The matcher, by name, in its plain form and by strips. The numbers are the limit, the squared radius, spots, and predictions with their
-// directions, each list after its count; `within_capacity` has the lengths of the candidate lists before them.
+// directions, each list after its count; `within_capacity` has the lengths of the candidate lists before them. The answer ends with how many
+// comparisons the ordering of the pairs took.
 ghost use Rattle.std.specs.Prelude.{◌≤◌};
 
 use crate::list::{at_most, count_at, floats};
 use crate::word::{NEVER, at, f64_at, place, same};
-use matching::Matched;
+use matching::{Matched, Matching};
 
 pub(crate) fn answer(name: &[u8], a: &[usize], e: &[usize]) -> usize {
     match place(name, b"greedy_unique_matches within_capacity") {
@@ -61,7 +62,11 @@ fn formed(a: &[usize], d: usize, i: usize, strips: bool, option: bool, e: &[usiz
         i,
         &mut work,
     );
-    report(m, option, a, 4 + s, &work, start, e)
+    same(
+        e,
+        report(m.matched, option, a, 4 + s, &work, start, e),
+        m.comparisons,
+    )
 }
 
 // The points of predictions, x and y before each direction but the first, until the list is full.
@@ -85,7 +90,7 @@ fn matched(
     d: usize,
     i: usize,
     work: &mut [usize],
-) -> Matched
+) -> Matching
     requires { (d ≤ 1024) × (i ≤ 2048) }
 {
     let mut distances = [0.0f64; 1024];

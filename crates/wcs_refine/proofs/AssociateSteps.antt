@@ -5,6 +5,8 @@ use lib.Seq.{slice, length-slice}
 use lib.Ieee.{Float}
 use Rattle.rounding.specs.Arith.{◌⊗◌}
 use Rattle.pairs.specs.Pairs.{pairs}
+use Rattle.matching.specs.Merge.{notAfter}
+use Rattle.matching.specs.Comparisons.{comparisons}
 use Rattle.matching.specs.Greedy.{Match, flat, matchesOf}
 use Rattle.pairs.specs.Candidates.{capacity}
 use Rattle.fit.specs.declared.Pose.{Pose}
@@ -13,7 +15,7 @@ use Rattle.entry.specs.Entry.{fixedOf}
 use Rattle.query.specs.Query.{Cache, Prediction}
 use Rattle.wcs_refine.specs.Associate.{laid, renamed, sameMatches}
 use Rattle.wcs_refine.specs.Listing.{renamedBy}
-use Rattle.wcs_refine.specs.Round.{State, Next, go, done, refuse, settled, associated}
+use Rattle.wcs_refine.specs.Round.{State, Next, go, done, refuse, settled, associated, compared}
 use Rattle.wcs_refine.specs.Keeping.{cacheOf, heldCache, heldMatches, heldState, withUsed, nextOf, Matchable, Fits, Predicted, AssociatedTo}
 use Rattle.wcs_refine.specs.Comparing.{Kept, Comparable, Compared, NewAt, FoundTo}
 use Rattle.wcs_refine.specs.declared.associating.Tally.{Tally}
@@ -128,9 +130,22 @@ module _ (k : Settings) (n q : ℕ) (spots floats d : List Float) (ix before : L
       (over-is qs p ∙ e)
       ∙ ap (λ (l : List ℕ). cond b (refuse 13) (settled h.pose (heldMatches h before) (heldCache n h before) l)) (new_is qs p))
 
-  pub refused : {last : List ℕ} → f.full ≡ true → AssociatedTo k n spots h r q before floats last (record { held = h; verdict = Refused 13 })
+  -- the comparisons on the predictions
+  compared-is : (qs : List Prediction) → Predicted n q before floats qs → f.comparisons ≡ compared (fixedOf k) spots r qs
+  unfolding compared
+  compared-is qs p =
+      w.comparisons ∙ ap (λ (l : List Float). cond f.full 0 (comparisons notAfter (pairs spots k.limit l (r ⊗ r)))) (sym p.points)
+      ∙ ap (λ (b : Bool). cond b 0 (comparisons notAfter (pairs spots k.limit (laid qs) (r ⊗ r)))) (sym (over-is qs p))
+
+  pub refused : {last : List ℕ} → f.full ≡ true
+      → AssociatedTo k n spots h r q before floats last (record { held = h; verdict = Refused 13; comparisons = 0 })
   unfolding nextOf
-  refused e = record { next = λ qs p. wanted-is qs p true e; fits = fits }
+  refused e = record {
+    next = λ qs p. wanted-is qs p true e;
+    comparisons = λ qs p.
+        sym (w.comparisons ∙ ap (λ (b : Bool). cond b 0 (comparisons notAfter (pairs spots k.limit points (r ⊗ r)))) e) ∙ compared-is qs p;
+    fits = fits;
+  }
 
   module _ (e : f.full ≡ false) where
     abbrev at : NewAt n f.within f.count new before after
@@ -142,16 +157,17 @@ module _ (k : Settings) (n q : ℕ) (spots floats d : List Float) (ix before : L
     -- the state as it came
     stayed : {last : List ℕ} → take (4 * n) last ≡ take (4 * n) before
         → done (heldState n h before) ≡ settled h.pose (heldMatches h before) (heldCache n h before) new
-        → AssociatedTo k n spots h r q before floats last (record { held = h; verdict = Done })
+        → AssociatedTo k n spots h r q before floats last (record { held = h; verdict = Done; comparisons = f.comparisons })
     unfolding nextOf
     stayed {last} same x = record {
       next = λ qs p.
           ap (λ (s : State). done s) (state-of (matches-same n h last before fits.used same) (cache-same n h last before (omega (arith, fits.cached)) same))
           ∙ x ∙ wanted-is qs p false e;
+      comparisons = compared-is;
       fits = fits;
     }
 
-    pub too_few : f.count < 4 → AssociatedTo k n spots h r q before floats after (record { held = h; verdict = Done })
+    pub too_few : f.count < 4 → AssociatedTo k n spots h r q before floats after (record { held = h; verdict = Done; comparisons = f.comparisons })
     too_few x = stayed at.front (settled-few h.pose (heldMatches h before) (heldCache n h before) new (omega (arith, new-many)))
 
     pub can-compare : Comparable (4 * n) f.within (8 * n) f.count h.used after
@@ -174,7 +190,7 @@ module _ (k : Settings) (n q : ℕ) (spots floats d : List Float) (ix before : L
       front : take (4 * n) m ≡ take (4 * n) before
       front = x.kept.front ∙ at.front
 
-      pub not_new : b ≡ true → AssociatedTo k n spots h r q before floats m (record { held = h; verdict = Done })
+      pub not_new : b ≡ true → AssociatedTo k n spots h r q before floats m (record { held = h; verdict = Done; comparisons = f.comparisons })
       not_new y = stayed front (settled_same h.pose (heldMatches h before) (heldCache n h before) new (sym answer ∙ y))
 
       there : slice (8 * n) (8 * n + 2 * f.count) m ≡ new
@@ -183,7 +199,8 @@ module _ (k : Settings) (n q : ℕ) (spots floats d : List Float) (ix before : L
           ∙ at.list
 
       pub taken : {last : List ℕ} {next : Held} → b ≡ false → 4 ≤ f.count → last ≡ slice (8 * n) (8 * n + 2 * f.count) m ++ drop (2 * f.count) m
-          → next ≡ withUsed h f.count → AssociatedTo k n spots h r q before floats last (record { held = next; verdict = GoOn })
+          → next ≡ withUsed h f.count
+          → AssociatedTo k n spots h r q before floats last (record { held = next; verdict = GoOn; comparisons = f.comparisons })
       unfolding nextOf
       taken {last} {next} y z brought is =
           let now : last ≡ new ++ drop (2 * f.count) m = brought ∙ ap (λ (l : List ℕ). l ++ drop (2 * f.count) m) there in
@@ -193,10 +210,11 @@ module _ (k : Settings) (n q : ℕ) (spots floats d : List Float) (ix before : L
           ∙ slice-behind (2 * n) (2 * n + h.cached) new m (2 * f.count) new-many (omega (arith, at.room)) (omega arith)
           (omega (arith, fits.cached, at.long, g.many, x.kept.long))
           ∙ slice_front (2 * n) (2 * n + h.cached) (4 * n) m before (omega (arith, fits.cached)) front in
-          subst (λ (s : Held). AssociatedTo k n spots h r q before floats last (record { held = s; verdict = GoOn })) (sym is)
+          subst (λ (s : Held). AssociatedTo k n spots h r q before floats last (record { held = s; verdict = GoOn; comparisons = f.comparisons })) (sym is)
           (record {
             next = λ qs p.
                 ap (λ (s : State). go s) (state-of ms (ap (cacheOf h.filled h.boresight h.theta) part))
                 ∙ settled-new h.pose (heldMatches h before) (heldCache n h before) new (omega (arith, new-many)) (sym answer ∙ y) ∙ wanted-is qs p false e;
+            comparisons = compared-is;
             fits = record { used = at.room; cached = fits.cached };
           })

@@ -42,13 +42,15 @@ begin-state ms l after p q e even f b t x =
 
 -- ---- the closing
 
-module _ (k : Settings) (ss ds : List Float) (p : Pose) (used : ℕ) (before after l : List ℕ) (r : Cleaned) (rounds passes queries : ℕ)
+module _ (k : Settings) (ss ds : List Float) (p : Pose) (used : ℕ) (before after l : List ℕ) (r : Cleaned) (rounds passes queries comparisons : ℕ)
     (d : CleanedTo k.cut ss ds p used before after r) where
   abbrev Closes : List ℕ → WcsRefineResult → Type 0
-  Closes out v = Answered (concluded (fixedOf k) ss ds (cleaned (fixedOf k) ss ds 3 p (take (2 * used) before)) rounds passes queries) l out v
+  Closes out v = Answered (concluded (fixedOf k) ss ds (cleaned (fixedOf k) ss ds 3 p (take (2 * used) before)) rounds passes queries comparisons) l out v
 
-  closes : {x : Closed} → closedOf r after ≡ x → {out : List ℕ} {v : WcsRefineResult} → Answered (concluded (fixedOf k) ss ds x rounds passes queries) l out v → Closes out v
-  closes e {out} {v} a = subst (λ (y : Closed). Answered (concluded (fixedOf k) ss ds y rounds passes queries) l out v) (sym e ∙ d.closed (fixedOf k) refl) a
+  closes : {x : Closed} → closedOf r after ≡ x → {out : List ℕ} {v : WcsRefineResult}
+      → Answered (concluded (fixedOf k) ss ds x rounds passes queries comparisons) l out v → Closes out v
+  closes e {out} {v} a =
+      subst (λ (y : Closed). Answered (concluded (fixedOf k) ss ds y rounds passes queries comparisons) l out v) (sym e ∙ d.closed (fixedOf k) refl) a
 
   pub closes-unsound : r.fine ≡ false → {v : WcsRefineResult} → v ≡ refusedWith 12 → Closes l v
   unfolding concluded valuesOf resultAfter
@@ -58,7 +60,8 @@ module _ (k : Settings) (ss ds : List Float) (p : Pose) (used : ℕ) (before aft
   -- of the first j numbers, which are the matches that are left, the report and the front of the result list
   module _ (j : ℕ) (x : Numbers) {v : WcsRefineResult} {out : List ℕ} (is : j ≡ 2 * r.used) (long : length after ≡ length before) (fits : 2 * used ≤ length before)
       (w : reportOf x r.pose (take j after) ≡ reported (fixedOf k) r.pose (take j after) (rows ss ds (take j after)))
-      (e : (ms : List ℕ) → length ms / 2 ≡ r.used → v ≡ accepted (reportOf x r.pose ms) rounds passes queries) (o : out ≡ fronted (take j after) l) where
+      (e : (ms : List ℕ) → length ms / 2 ≡ r.used → v ≡ accepted (reportOf x r.pose ms) rounds passes queries comparisons)
+      (o : out ≡ fronted (take j after) l) where
     front-count : length (take j after) / 2 ≡ r.used
     front-count =
         let room : j ≤ length after = omega (arith, is, long, fits, d.fewer) in
@@ -70,8 +73,8 @@ module _ (k : Settings) (ss ds : List Float) (p : Pose) (used : ℕ) (before aft
         let ms = take j after in
         let whole : closedOf r after ≡ fine r.pose ms =
         ap (λ (b : Bool). cond b (fine r.pose (take (2 * r.used) after)) unsound) f ∙ ap (λ (n : ℕ). fine r.pose (take n after)) (sym is) in
-        let it : Answered (ok (reportOf x r.pose ms) rounds passes queries) l out v = record { values = e ms front-count; list = o } in
-        closes {x = fine r.pose ms} whole (subst (λ (y : Report). Answered (ok y rounds passes queries) l out v) w it)
+        let it : Answered (ok (reportOf x r.pose ms) rounds passes queries comparisons) l out v = record { values = e ms front-count; list = o } in
+        closes {x = fine r.pose ms} whole (subst (λ (y : Report). Answered (ok y rounds passes queries comparisons) l out v) w it)
 
 -- ---- what the start and the run are lent
 
@@ -116,7 +119,7 @@ run_is : (c : Call) → loop (fixed c) c.spots c.directions c.given.rounds (star
 unfolding runOf
 run_is c = refl
 
-closed_is : (c : Call) (x : Closed) (u : Run) → concluded (fixed c) c.spots c.directions x u.rounds u.passes (length u.queries) ≡ closed c x u
+closed_is : (c : Call) (x : Closed) (u : Run) → concluded (fixed c) c.spots c.directions x u.rounds u.passes (length u.queries) u.comparisons ≡ closed c x u
 unfolding closed concluded
 closed_is c unsound u = refl
 closed_is c (fine p ms) u = refl
@@ -127,7 +130,8 @@ finished-refused c zero s u h = absurd (h refl)
 finished-refused c (suc x) s u h = refl
 
 finished-ended : (c : Call) (x : ℕ) (s : State) (u : Run) → x ≡ 0
-    → concluded (fixed c) c.spots c.directions (cleaned (fixed c) c.spots c.directions 3 s.pose s.matches) u.rounds u.passes (length u.queries) ≡ finished c (endingOf x s) u
+    → concluded (fixed c) c.spots c.directions (cleaned (fixed c) c.spots c.directions 3 s.pose s.matches) u.rounds u.passes (length u.queries) u.comparisons
+    ≡ finished c (endingOf x s) u
 unfolding endingOf finished
 finished-ended c zero s u h = closed_is c (cleaned (fixed c) c.spots c.directions 3 s.pose s.matches) u
 finished-ended c (suc x) s u h =
@@ -173,21 +177,24 @@ module _ (c : Call) (lawful : refusal c ≡ 0) where
         subst (λ (y : Answer). Answered y l l v)
         (finished-refused c r.refusal (heldState n r.held after) (runOf c) f ∙ ap (λ (y : Ending). finished c y (runOf c)) last ∙ answer-is) it
 
-    abbrev concludes : Fixed → ℕ → ℕ → ℕ → Answer
-    concludes y rounds passes queries =
-        concluded y c.spots c.directions (cleaned y c.spots c.directions 3 r.held.pose (take (2 * r.held.used) after)) rounds passes queries
+    abbrev concludes : Fixed → ℕ → ℕ → ℕ → ℕ → Answer
+    concludes y rounds passes queries comparisons =
+        concluded y c.spots c.directions (cleaned y c.spots c.directions 3 r.held.pose (take (2 * r.held.used) after)) rounds passes queries comparisons
 
-    pub ended-answer : r.refusal ≡ 0 → {l out : List ℕ} {v : WcsRefineResult} → Answered (concludes (fixedOf k) r.rounds r.passes r.queries) l out v → Answered (answer c) l out v
+    pub ended-answer : r.refusal ≡ 0 → {l out : List ℕ} {v : WcsRefineResult}
+        → Answered (concludes (fixedOf k) r.rounds r.passes r.queries r.comparisons) l out v → Answered (answer c) l out v
     ended-answer f {l} {out} {v} a =
         let u = runOf c in
         let rounds : r.rounds ≡ u.rounds = ran.rounds ∙ ap (λ (y : Run). y.rounds) run-same in
         let passes : r.passes ≡ u.passes = ran.passes ∙ ap (λ (y : Run). y.passes) run-same in
         let queries : r.queries ≡ length u.queries = ran.count ∙ ap (λ (y : Run). length y.queries) run-same in
+        let comparisons : r.comparisons ≡ u.comparisons = ran.comparisons ∙ ap (λ (y : Run). y.comparisons) run-same in
         subst (λ (y : Answer). Answered y l out v)
-        (ap (λ (y : Fixed). concludes y r.rounds r.passes r.queries) same
-        ∙ ap (λ (y : ℕ). concludes (fixed c) y r.passes r.queries) rounds
-        ∙ ap (λ (y : ℕ). concludes (fixed c) u.rounds y r.queries) passes
-        ∙ ap (λ (y : ℕ). concludes (fixed c) u.rounds u.passes y) queries
+        (ap (λ (y : Fixed). concludes y r.rounds r.passes r.queries r.comparisons) same
+        ∙ ap (λ (y : ℕ). concludes (fixed c) y r.passes r.queries r.comparisons) rounds
+        ∙ ap (λ (y : ℕ). concludes (fixed c) u.rounds y r.queries r.comparisons) passes
+        ∙ ap (λ (y : ℕ). concludes (fixed c) u.rounds u.passes y r.comparisons) queries
+        ∙ ap (λ (y : ℕ). concludes (fixed c) u.rounds u.passes (length u.queries) y) comparisons
         ∙ finished-ended c r.refusal (heldState n r.held after) u f ∙ ap (λ (y : Ending). finished c y u) last ∙ answer-is)
         a
 
@@ -204,7 +211,7 @@ module _ (c : Call) (lawful : refusal c ≡ 0) where
 left-late : (l : Lent) (a : Answer) → cleared (resultAfter l.result a) l ≡ left l 0 a
 unfolding left resultAfter
 left-late l (no n) = refl
-left-late l (ok r rounds passes queries) = refl
+left-late l (ok r rounds passes queries comparisons) = refl
 
 left-early : (l : Lent) (n : ℕ) (a : Answer) → (n ≡ 0 → ⊥) → l ≡ left l n a
 unfolding left

@@ -4,6 +4,8 @@ use lib.ListN.{length-replicate, get_or-replicate, replicate-append-replicate, g
 use lib.Seq.{slice, length-slice}
 use lib.Ieee.{Float}
 use Rattle.pairs.specs.Pairs.{pairs, spotsWithin}
+use Rattle.matching.specs.Merge.{notAfter}
+use Rattle.matching.specs.Comparisons.{comparisons}
 use Rattle.matching.specs.Greedy.{Match, flat, matchesOf, placed, overfull, Outcome, greedyUniqueMatches, greedyByStrips}
 use Rattle.pairs.specs.Candidates.{capacity}
 use Rattle.matching.specs.declared.Matched.{Matched}
@@ -35,8 +37,8 @@ slice_front {A} a e n l m h same =
 
 -- ---- the matcher's answer
 
-abbrev outcomeOf : Matched → List Float → List ℕ → List ℕ → Outcome
-outcomeOf x d ix w = record { answer = x; distances = d; indices = ix; work = w }
+abbrev outcomeOf : Matched → ℕ → List Float → List ℕ → List ℕ → Outcome
+outcomeOf x m d ix w = record { answer = x; comparisons = m; distances = d; indices = ix; work = w }
 
 module _ (n q : ℕ) (spots : List Float) (limit : ℕ) (floats : List Float) (r2 : Float) (d : List Float) (ix o : List ℕ)
     (room : length spots / 2 + q ≤ n) (many : 16 * n ≤ length o) (far : 16 * n ≤ length floats) where
@@ -52,6 +54,10 @@ module _ (n q : ℕ) (spots : List Float) (limit : ℕ) (floats : List Float) (r
   abbrev found : List Match
   found = matchesOf spots limit points r2
 
+  -- the comparisons that put its pairs in order
+  abbrev compared : ℕ
+  compared = comparisons notAfter (pairs spots limit points r2)
+
   abbrev over : Bool
   over = ltb (capacity d ix) (length (pairs spots limit points r2))
 
@@ -66,30 +72,30 @@ module _ (n q : ℕ) (spots : List Float) (limit : ℕ) (floats : List Float) (r
   inner = drop (2 * within) work
 
   abbrev behindStrips : Outcome → Outcome
-  behindStrips z = outcomeOf z.answer z.distances z.indices (replicate (2 * within) 0 ++ z.work)
+  behindStrips z = outcomeOf z.answer z.comparisons z.distances z.indices (replicate (2 * within) 0 ++ z.work)
 
   abbrev fitted : Outcome
-  fitted = placed (within + length points / 2) (length (pairs spots limit points r2)) found d ix inner
+  fitted = placed (within + length points / 2) (length (pairs spots limit points r2)) compared found d ix inner
 
-  module _ {x : Matched} {d' : List Float} {ix' w : List ℕ}
-      (did : outcomeOf x d' ix' w ≡ greedyByStrips spots limit (take (2 * n + 2 * q - 2 * n) (drop (2 * n) floats)) r2 d ix work) where
+  module _ {x : Matched} {m : ℕ} {d' : List Float} {ix' w : List ℕ}
+      (did : outcomeOf x m d' ix' w ≡ greedyByStrips spots limit (take (2 * n + 2 * q - 2 * n) (drop (2 * n) floats)) r2 d ix work) where
     enough : 2 * within + (within + length points / 2 + 2 * min within (length points / 2)) ≤ length work
     enough = omega (arith, points-many, work-many)
 
-    told : outcomeOf x d' ix' w ≡ behindStrips (cond over (overfull d ix inner) fitted)
+    told : outcomeOf x m d' ix' w ≡ behindStrips (cond over (overfull d ix inner) fitted)
     unfolding greedyByStrips greedyUniqueMatches
     told =
         did ∙ ap (λ (z : List Float). greedyByStrips spots limit z r2 d ix work) (part-is (2 * n) (2 * n + 2 * q) floats (omega arith) (omega arith))
-        ∙ ap (λ (b : Bool). cond b (outcomeOf Matched.Short d ix work) (behindStrips (greedyUniqueMatches spots limit points r2 d ix inner)))
+        ∙ ap (λ (b : Bool). cond b (outcomeOf Matched.Short 0 d ix work) (behindStrips (greedyUniqueMatches spots limit points r2 d ix inner)))
         (le-ltb (length work) (2 * within + (within + length points / 2 + 2 * min within (length points / 2))) enough)
-        ∙ ap (λ (b : Bool). behindStrips (cond b (outcomeOf Matched.Short d ix inner) (cond over (overfull d ix inner) fitted)))
+        ∙ ap (λ (b : Bool). behindStrips (cond b (outcomeOf Matched.Short 0 d ix inner) (cond over (overfull d ix inner) fitted)))
         (le-ltb (length inner) (within + length points / 2 + 2 * min within (length points / 2)) (omega (arith, enough, length-drop (2 * within) work)))
 
     if-over : over ≡ true → x ≡ TooMany
     unfolding overfull
     if-over e = ap (λ (z : Outcome). z.answer) (told ∙ ap (λ (b : Bool). behindStrips (cond b (overfull d ix inner) fitted)) e)
 
-    if-fits : over ≡ false → outcomeOf x d' ix' w ≡ behindStrips fitted
+    if-fits : over ≡ false → outcomeOf x m d' ix' w ≡ behindStrips fitted
     if-fits e = told ∙ ap (λ (b : Bool). behindStrips (cond b (overfull d ix inner) fitted)) e
 
     fits-answer : over ≡ false → x ≡ Matches (length found)
@@ -127,6 +133,10 @@ module _ (n q : ℕ) (spots : List Float) (limit : ℕ) (floats : List Float) (r
 
       pub count-is : t ≡ length found
       count-is = let f : x ≡ Matches (length found) = fits-answer (sym not-over) in cc
+
+      pub compared-is : m ≡ compared
+      unfolding placed
+      compared-is = ap (λ (z : Outcome). z.comparisons) (if-fits (sym not-over))
 
       -- how far the matches reach
       pub reach : 3 * within + q + 2 * t ≤ 4 * n

@@ -30,3 +30,4 @@ pub mod FindSteps
 pub mod AssociateSteps
 pub mod RoundPlaces
 pub mod RoundMeaning
+pub mod Ceiling

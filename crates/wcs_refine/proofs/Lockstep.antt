@@ -1,6 +1,6 @@
 -- Two runs with the same fixed values, the same spots within the limit, and the same directions and spots wherever a match names or a query lists them,
 -- go through the same states: one round, and the loop. Assumes nothing.
-use Rattle.std.proofs.Common.{◌≡◌, ℕ, zero, suc, ◌+◌, ◌/◌, ◌<◌, Bool, true, false, cond, not, ◌&&◌, ltb, leb, List, [], ◌∷◌, ◌++◌, length, refl, ap, ◌∙◌, subst, arith}
+use Rattle.std.proofs.Common.{◌≡◌, ℕ, zero, suc, ◌/◌, ◌<◌, Bool, true, false, cond, not, ◌&&◌, ltb, leb, List, [], ◌∷◌, length, refl, ap, ◌∙◌, subst, arith}
 use lib.Ieee.{Float}
 use Rattle.rounding.specs.Arith.{◌⊗◌}
 use Rattle.pairs.specs.Pairs.{pairs}
@@ -16,7 +16,7 @@ use Rattle.query.specs.Query.{Cache, empty, full, query, drifted, Prediction, pr
 use Rattle.panel.specs.Points.{withinLimit, pointsOf}
 use Rattle.panel.proofs.Laying.{points-same}
 use Rattle.wcs_refine.specs.Associate.{adaptivePx, laid, renamed, sameMatches}
-use Rattle.wcs_refine.specs.Round.{State, Next, go, done, refuse, Found, Round, settled, associated, fresh, reused, searched, rest, fitted, round, Ending, refused, ended, Run, carry, loop}
+use Rattle.wcs_refine.specs.Round.{State, Next, go, done, refuse, Found, Round, settled, associated, compared, fresh, reused, searched, rest, fitted, round, Ending, refused, ended, Run, carry, loop}
 use Rattle.wcs_refine.proofs.Along.{All, all-++, either}
 use Rattle.wcs_refine.proofs.Remaining.{Predicts, found_all, clipped-all, predictions-all, pruned-all}
 use Rattle.wcs_refine.proofs.Points.{points-within}
@@ -71,7 +71,8 @@ module _ (sa sb da db : List Float) where
     fresh-same p ms r l h = λ t.
         let axes = cameraRows p.theta p.ra p.dec in
         let c = full (boresight p.ra p.dec) p.theta (pruned-same da db k axes l h t) in
-        record { next = associated k (seen_same t) p ms c r (predictions-same da db k axes l h t); queries = l ∷ [] }
+        let qs = predictions-same da db k axes l h t in
+        record { next = associated k (seen_same t) p ms c r qs; queries = l ∷ []; comparisons = compared k (seen_same t) r qs }
 
     asked-same : (p : Pose) (ms : List ℕ) (r : Float) → All Q (query k da p) → All Q (query k db p) → fresh k sa da p ms r (query k da p) ≡ fresh k sb db p ms r (query k db p)
     asked-same p ms r h g = fresh-same p ms r (query k da p) h ∙ ap (fresh k sb db p ms r) (query-same da db k p h g)
@@ -81,7 +82,8 @@ module _ (sa sb da db : List Float) where
     unfolding reused fresh
     reused-same p ms r b th l true c h g = asked-same p ms r h.0 g.0
     reused-same p ms r b th l false c h g = λ t.
-        record { next = associated k (seen_same t) p ms (full b th l) r (predictions-same da db k (cameraRows p.theta p.ra p.dec) l c t); queries = [] }
+        let qs = predictions-same da db k (cameraRows p.theta p.ra p.dec) l c t in
+        record { next = associated k (seen_same t) p ms (full b th l) r qs; queries = []; comparisons = compared k (seen_same t) r qs }
 
     searched-same : (p : Pose) (ms : List ℕ) (r : Float) (c : Cache) → CacheShared c
         → ListsShared (searched k sa da p ms r c).queries → ListsShared (searched k sb db p ms r c).queries → searched k sa da p ms r c ≡ searched k sb db p ms r c
@@ -103,7 +105,8 @@ module _ (sa sb da db : List Float) where
         let p = f.pose in
         let ms = clipped vs t s.matches in
         let r = adaptivePx k t in
-        let e = chosen f.fine (searched k sa da p ms r s.cache) (searched k sb db p ms r s.cache) (record { next = refuse 12; queries = [] })
+        let e = chosen f.fine (searched k sa da p ms r s.cache) (searched k sb db p ms r s.cache)
+        (record { next = refuse 12; queries = []; comparisons = 0 })
         (searched-same p ms r s.cache c) h g in
         λ i. record { found = e i; passes = f.passes }
 
@@ -136,7 +139,8 @@ module _ (sa sb da db : List Float) where
     searched-shared p ms r empty hm c h = fresh-shared p ms r (query k da p) hm h.0
     searched-shared p ms r (full b th l) hm c h = reused-shared p ms r b th l (drifted k p b th) hm c h
 
-    chosen-shared : (b : Bool) (x : Found) → (ListsShared x.queries → NextShared x.next) → let z : Found = record { next = refuse 12; queries = [] } in ListsShared (cond b x z).queries → NextShared (cond b x z).next
+    chosen-shared : (b : Bool) (x : Found) → (ListsShared x.queries → NextShared x.next)
+        → let z : Found = record { next = refuse 12; queries = []; comparisons = 0 } in ListsShared (cond b x z).queries → NextShared (cond b x z).next
     chosen-shared true x e h = e h
     chosen-shared false x e h = tt
 
@@ -152,26 +156,27 @@ module _ (sa sb da db : List Float) where
         (searched-shared f.pose ms (adaptivePx k t) s.cache (clipped-all (SameSpot sa sb) Q vs t s.matches i.matches) i.cache) h
 
     -- ---- the loop
-    first : (n : ℕ) (q : List (List ℕ)) (x : Next) (f : State → Run) → ListsShared (carry n q x f).queries → ListsShared q
+    first : (n : ℕ) (q : List (List ℕ)) (c : ℕ) (x : Next) (f : State → Run) → ListsShared (carry n q c x f).queries → ListsShared q
     unfolding carry
-    first n q (go s) f h = (all-++ (All Q) q (f s).queries h).0
-    first n q (done s) f h = h
-    first n q (refuse m) f h = h
+    first n q c (go s) f h = (all-++ (All Q) q (f s).queries h).0
+    first n q c (done s) f h = h
+    first n q c (refuse m) f h = h
 
     abbrev pub Same : Run → Run → Type 0
     Same a b = ListsShared a.queries → ListsShared b.queries → (a ≡ b) × EndShared a.ending
 
-    carry_same : (n : ℕ) (q : List (List ℕ)) (x : Next) (f g : State → Run) → NextShared x → ((t : State) → StateShared t → Same (f t) (g t)) → Same (carry n q x f) (carry n q x g)
+    carry_same : (n : ℕ) (q : List (List ℕ)) (c : ℕ) (x : Next) (f g : State → Run) → NextShared x
+        → ((t : State) → StateShared t → Same (f t) (g t)) → Same (carry n q c x f) (carry n q c x g)
     unfolding carry
-    carry_same n q (go s) f g i r h l =
+    carry_same n q c (go s) f g i r h l =
         let e = r s i (all-++ (All Q) q (f s).queries h).1 (all-++ (All Q) q (g s).queries l).1 in
-        (ap (λ (r : Run). record { ending = r.ending; rounds = suc r.rounds; passes = n + r.passes; queries = q ++ r.queries }) e.0, e.1)
-    carry_same n q (done s) f g i r h l = (refl, i)
-    carry_same n q (refuse m) f g i r h l = (refl, tt)
+        (ap (λ (r : Run). carry n q c (go s) (λ t. r)) e.0, e.1)
+    carry_same n q c (done s) f g i r h l = (refl, i)
+    carry_same n q c (refuse m) f g i r h l = (refl, tt)
 
     -- a round and what follows it, as a function of the round
     abbrev onward : (State → Run) → Round → Run
-    onward f r = carry r.passes r.found.queries r.found.next f
+    onward f r = carry r.passes r.found.queries r.found.comparisons r.found.next f
 
     pub loop-same : (n : ℕ) (s : State) → StateShared s → Same (loop k sa da n s) (loop k sb db n s)
     unfolding loop
@@ -181,8 +186,8 @@ module _ (sa sb da db : List Float) where
         let rb = round k sb db s in
         let fa : State → Run = λ t. loop k sa da n t in
         let fb : State → Run = λ t. loop k sb db n t in
-        let ha = first ra.passes ra.found.queries ra.found.next fa h in
-        let hb = first rb.passes rb.found.queries rb.found.next fb g in
+        let ha = first ra.passes ra.found.queries ra.found.comparisons ra.found.next fa h in
+        let hb = first rb.passes rb.found.queries rb.found.comparisons rb.found.next fb g in
         subst (λ (r : Round). ListsShared (onward fb r).queries → (onward fa ra ≡ onward fb r) × EndShared (onward fa ra).ending) (round_same s i ha hb)
-        (carry_same ra.passes ra.found.queries ra.found.next fa fb (round-shared s i ha) (λ t j. loop-same n t j) h)
+        (carry_same ra.passes ra.found.queries ra.found.comparisons ra.found.next fa fb (round-shared s i ha) (λ t j. loop-same n t j) h)
         g

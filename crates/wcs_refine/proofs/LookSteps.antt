@@ -13,7 +13,7 @@ use Rattle.entry.specs.Fixed.{Fixed, searchRadius, requeryMargin, pruneR, keepR}
 use Rattle.query.specs.Query.{dot32, axis32, Cache, full, scanned, query, drifted, Prediction, predictions, pruned}
 use Rattle.panel.specs.Points.{pointsOf}
 use Rattle.wcs_refine.specs.Associate.{laid}
-use Rattle.wcs_refine.specs.Round.{Found, associated, fresh, reused, searched}
+use Rattle.wcs_refine.specs.Round.{Found, associated, compared, fresh, reused, searched}
 use Rattle.query.specs.Listing.{leastCosOf, falling, standing, Fronted}
 use Rattle.wcs_refine.specs.Listing.{points, idsOf, Told}
 use Rattle.wcs_refine.specs.Keeping.{cacheOf, heldCache, heldMatches, Fits, AssociatedTo, LookedTo, SearchedTo}
@@ -189,7 +189,11 @@ abbrev axes : Pose → List (List Float)
 axes p = cameraRows p.theta p.ra p.dec
 
 abbrev answer : Fixed → List Float → Pose → List ℕ → Cache → Float → List Prediction → List (List ℕ) → Found
-answer k spots p ms c r qs queries = record { next = associated k (pointsOf spots k.limit) p ms c r qs; queries = queries }
+answer k spots p ms c r qs queries = record {
+  next = associated k (pointsOf spots k.limit) p ms c r qs;
+  queries = queries;
+  comparisons = compared k (pointsOf spots k.limit) r qs;
+}
 
 module _ (k : Fixed) (spots ds : List Float) (p : Pose) (ms : List ℕ) (r : Float) (b : List Float) (theta : Float) (listed : List ℕ) where
   searched-due : (f : Bool) → cond f (drifted k p b theta) true ≡ true
@@ -267,7 +271,7 @@ module _ (k : Settings) (n : ℕ) (spots ds : List Float) (h : Held) (radius : F
       ∙ take-take (2 * h.used) (2 * n) l low
 
   pub searches : (a : Looked) (t : Step) → LookedTo k n ds h l l₁ fs a → AssociatedTo k n (pointsOf spots k.limit) a.held radius a.predicted l₁ fs l₂ t
-      → SearchedTo k n spots ds h radius l l₂ (record { held = t.held; verdict = t.verdict; queries = a.queries })
+      → SearchedTo k n spots ds h radius l l₂ (record { held = t.held; verdict = t.verdict; queries = a.queries; comparisons = t.comparisons })
   searches a t s m =
       let qs = s.predictions in
       let found = s.searched spots (heldMatches h l) radius in
@@ -278,5 +282,6 @@ module _ (k : Settings) (n : ℕ) (spots ds : List Float) (h : Held) (radius : F
             (matches-same a.held s.used s.matches)
             ∙ sym (ap (λ (x : Found). x.next) found);
         count = s.count ∙ sym (ap (λ (x : Found). length x.queries) found);
+        comparisons = m.comparisons qs s.predicted ∙ sym (ap (λ (x : Found). x.comparisons) found);
         fits = m.fits;
       }

@@ -86,7 +86,8 @@ module _ (k : Fixed) (spots directions : List Float) (m : ℕ) (room : 2 * withi
   unfolding fitted
   fitted-small s rs f h =
       let x = residuals (viewOf f.pose k.cut) rs in
-      either (λ (y : Found). Small y.next) f.fine (rest k spots directions f.pose s.matches s.cache x) (record { next = refuse 12; queries = [] })
+      either (λ (y : Found). Small y.next) f.fine (rest k spots directions f.pose s.matches s.cache x)
+      (record { next = refuse 12; queries = []; comparisons = 0 })
       (rest-small f.pose s.matches s.cache x h) tt
 
   round-small : (s : State) → length s.matches ≤ m → Small (round k spots directions s).found.next
@@ -99,15 +100,16 @@ module _ (k : Fixed) (spots directions : List Float) (m : ℕ) (room : 2 * withi
   Ends (refused x) = Unit {0}
   Ends (ended s) = length s.matches ≤ m
 
-  carry-ends : (n : ℕ) (qs : List (List ℕ)) (x : Next) (f : State → Run) → Small x → ((s : State) → length s.matches ≤ m → Ends (f s).ending) → Ends (carry n qs x f).ending
+  carry-ends : (n : ℕ) (qs : List (List ℕ)) (c : ℕ) (x : Next) (f : State → Run) → Small x
+      → ((s : State) → length s.matches ≤ m → Ends (f s).ending) → Ends (carry n qs c x f).ending
   unfolding carry
-  carry-ends n qs (go s) f h g = g s h
-  carry-ends n qs (done s) f h g = h
-  carry-ends n qs (refuse x) f h g = h
+  carry-ends n qs c (go s) f h g = g s h
+  carry-ends n qs c (done s) f h g = h
+  carry-ends n qs c (refuse x) f h g = h
 
   pub loop-ends : (n : ℕ) (s : State) → length s.matches ≤ m → Ends (loop k spots directions n s).ending
   unfolding loop
   loop-ends zero s h = h
   loop-ends (suc n) s h =
       let r = round k spots directions s in
-      carry-ends r.passes r.found.queries r.found.next (λ t. loop k spots directions n t) (round-small s h) (λ t g. loop-ends n t g)
+      carry-ends r.passes r.found.queries r.found.comparisons r.found.next (λ t. loop k spots directions n t) (round-small s h) (λ t g. loop-ends n t g)

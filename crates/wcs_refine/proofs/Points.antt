@@ -9,8 +9,9 @@ use Rattle.panel.proofs.Laying.{coordinates-many}
 use Rattle.entry.specs.declared.Settings.{Settings}
 use Rattle.entry.specs.Entry.{fixedOf}
 use Rattle.query.specs.declared.Held.{Held}
-use Rattle.wcs_refine.specs.Round.{associated}
-use Rattle.wcs_refine.specs.Keeping.{heldCache, heldMatches, PointsAt, AssociatedTo}
+use Rattle.query.specs.Query.{Prediction}
+use Rattle.wcs_refine.specs.Round.{associated, compared}
+use Rattle.wcs_refine.specs.Keeping.{heldCache, heldMatches, PointsAt, Predicted, AssociatedTo}
 use Rattle.wcs_refine.specs.declared.associating.Step.{Step}
 use Rattle.wcs_refine.proofs.FindSteps.{part-is, slice_at, slice_front}
 
@@ -76,9 +77,12 @@ pub spots-associated : (k : Settings) (n q within : ℕ) (spots floats laid : Li
 unfolding pointsOf
 spots-associated k n q within spots floats laid h r before after s few e p a =
     let same : slice (4 * n) (4 * n + 2 * within) laid ≡ coordinates spots 0 (withinLimit spots k.limit) = p.points ∙ ap (coordinates spots 0) e in
+    let there : (qs : List Prediction) → Predicted n q before floats qs → Predicted n q before laid qs =
+    λ qs w. record { ids = w.ids; points = w.points ∙ sym (p.front (2 * n) (2 * n + 2 * q) (omega arith)) } in
     record {
       next = λ qs w.
-          a.next qs (record { ids = w.ids; points = w.points ∙ sym (p.front (2 * n) (2 * n + 2 * q) (omega arith)) })
+          a.next qs (there qs w)
           ∙ ap (λ (l : List Float). associated (fixedOf k) l h.pose (heldMatches h before) (heldCache n h before) r qs) same;
+      comparisons = λ qs w. a.comparisons qs (there qs w) ∙ ap (λ (l : List Float). compared (fixedOf k) l r qs) same;
       fits = a.fits;
     }

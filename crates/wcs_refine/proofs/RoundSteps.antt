@@ -138,6 +138,7 @@ module _ (k : Settings) (n : ℕ) (ss ds : List Float) (h : Held) (l : List ℕ)
       record {
         next = g.next ∙ ap (λ (x : Found). x.next) renew-rest;
         count = g.count ∙ ap (λ (x : Found). length x.queries) renew-rest;
+        comparisons = g.comparisons ∙ ap (λ (x : Found). x.comparisons) renew-rest;
         fits = g.fits;
       }
 
@@ -151,26 +152,32 @@ module _ (k : Settings) (n : ℕ) (ss ds : List Float) (h : Held) (l : List ℕ)
       ap (fitted (fixedOf k) ss ds (heldState n h l) (rows ss ds (heldMatches h l)))
       (e ∙ ap (λ (x : ℕ). fitPasses 10 k.cut (rows ss ds (take x l)) h.pose) is)
 
-  pub round-unsound : f.fine ≡ false → RoundTo k n ss ds h l l (record { held = h; verdict = Refused 12; passes = f.passes; queries = 0 })
+  -- what a round comes to whose passes are refused
+  abbrev unfit : Found
+  unfit = record { next = refuse 12; queries = []; comparisons = 0 }
+
+  pub round-unsound : f.fine ≡ false → RoundTo k n ss ds h l l (record { held = h; verdict = Refused 12; passes = f.passes; queries = 0; comparisons = 0 })
   unfolding fitted nextOf
   round-unsound b =
       let r = rest (fixedOf k) ss ds f.pose (heldMatches h l) (heldCache n h l) (residualsAt k ss ds f.pose (heldMatches h l)) in
       record {
-        next = ap (λ (x : Bool). (cond x r (record { next = refuse 12; queries = [] })).next) (sym b) ∙ ap (λ (x : Round). x.found.next) round-passed;
-        count = ap (λ (x : Bool). length (cond x r (record { next = refuse 12; queries = [] })).queries) (sym b) ∙ ap (λ (x : Round). length x.found.queries) round-passed;
+        next = ap (λ (x : Bool). (cond x r unfit).next) (sym b) ∙ ap (λ (x : Round). x.found.next) round-passed;
+        count = ap (λ (x : Bool). length (cond x r unfit).queries) (sym b) ∙ ap (λ (x : Round). length x.found.queries) round-passed;
+        comparisons = ap (λ (x : Bool). (cond x r unfit).comparisons) (sym b) ∙ ap (λ (x : Round). x.found.comparisons) round-passed;
         passes = ap (λ (x : Round). x.passes) round-passed;
         fits = fits;
       }
 
   pub round-sound : (after : List ℕ) (s : Sought) {h' : Held} → f.fine ≡ true → h' ≡ posed h f.pose → RestTo k n ss ds h' l after s
-      → RoundTo k n ss ds h l after (record { held = s.held; verdict = s.verdict; passes = f.passes; queries = s.queries })
+      → RoundTo k n ss ds h l after (record { held = s.held; verdict = s.verdict; passes = f.passes; queries = s.queries; comparisons = s.comparisons })
   unfolding fitted
   round-sound after s b g c =
       let d : RestTo k n ss ds (posed h f.pose) l after s = subst (λ (x : Held). RestTo k n ss ds x l after s) g c in
       let r = restOf k n ss ds (posed h f.pose) l in
       record {
-        next = d.next ∙ ap (λ (x : Bool). (cond x r (record { next = refuse 12; queries = [] })).next) (sym b) ∙ ap (λ (x : Round). x.found.next) round-passed;
-        count = d.count ∙ ap (λ (x : Bool). length (cond x r (record { next = refuse 12; queries = [] })).queries) (sym b) ∙ ap (λ (x : Round). length x.found.queries) round-passed;
+        next = d.next ∙ ap (λ (x : Bool). (cond x r unfit).next) (sym b) ∙ ap (λ (x : Round). x.found.next) round-passed;
+        count = d.count ∙ ap (λ (x : Bool). length (cond x r unfit).queries) (sym b) ∙ ap (λ (x : Round). length x.found.queries) round-passed;
+        comparisons = d.comparisons ∙ ap (λ (x : Bool). (cond x r unfit).comparisons) (sym b) ∙ ap (λ (x : Round). x.found.comparisons) round-passed;
         passes = ap (λ (x : Round). x.passes) round-passed;
         fits = d.fits;
       }

@@ -1,5 +1,5 @@
 -- The rounds one by one: what is left of them, with the counts so far, gives the whole; and what a round at most counts. Assumes nothing.
-use Rattle.std.proofs.Common.{◌≡◌, ℕ, zero, suc, ◌+◌, ◌-◌, ◌/◌, ◌<◌, ◌≤◌, Bool, true, false, not, ◌&&◌, ltb, leb, List, [], ◌++◌, length, sym, refl, ap, ◌∙◌, subst, true≢false, arith, length-append}
+use Rattle.std.proofs.Common.{◌≡◌, ℕ, zero, suc, ◌+◌, ◌-◌, ◌/◌, ◌<◌, ◌≤◌, max, Bool, true, false, not, ◌&&◌, ltb, leb, List, [], ◌++◌, length, sym, refl, ap, ◌∙◌, subst, true≢false, arith, length-append}
 use lib.Ieee.{Float}
 use Rattle.rounding.specs.Arith.{◌⊗◌}
 use Rattle.pairs.specs.Pairs.{pairs}
@@ -19,7 +19,7 @@ use Rattle.wcs_refine.specs.Clip.{statistics, clipped}
 use Rattle.query.specs.Query.{query, Cache, empty, full, drifted, Prediction, predictions, pruned}
 use Rattle.panel.specs.Points.{pointsOf}
 use Rattle.wcs_refine.specs.Associate.{adaptivePx, laid, renamed, sameMatches}
-use Rattle.wcs_refine.specs.Round.{State, Next, go, done, refuse, Found, settled, associated, fresh, reused, searched, rest, fitted, round, Ending, refused, ended, Run, carry, loop}
+use Rattle.wcs_refine.specs.Round.{State, Next, go, done, refuse, Found, Round, settled, associated, fresh, reused, searched, rest, fitted, round, Ending, refused, ended, Run, carry, loop}
 use Rattle.wcs_refine.specs.Keeping.{heldState, Fits, nextOf, RoundTo, endingOf, RanTo}
 use Rattle.wcs_refine.specs.Stepping.{stopped, refusalOf}
 use Rattle.query.specs.declared.Held.{Held}
@@ -96,7 +96,7 @@ fitted-fair : (k : Fixed) (ss ds : List Float) (s : State) (rs : List Row) (f : 
 unfolding fitted
 fitted-fair k ss ds s rs f =
     let es = residuals (viewOf f.pose k.cut) rs in
-    either Fair f.fine (rest k ss ds f.pose s.matches s.cache es) (record { next = refuse 12; queries = [] })
+    either Fair f.fine (rest k ss ds f.pose s.matches s.cache es) (record { next = refuse 12; queries = []; comparisons = 0 })
     (rest-fair k ss ds f.pose s.matches s.cache es) (omega arith, omega arith)
 
 round-fair : (k : Fixed) (ss ds : List Float) (s : State) → Fair (round k ss ds s).found
@@ -109,48 +109,60 @@ round-passes k ss ds s = few-passes 10 k.cut (rows ss ds s.matches) s.pose
 
 -- ---- the loop
 
--- How a run ends, and its counts, after i rounds with p passes and q queries.
+-- How a run ends, and its counts, after i rounds with p passes, q queries and at most m comparisons.
 pub record Sums : Type 0 where
   pub ending : Ending
   pub rounds : ℕ
   pub passes : ℕ
   pub count : ℕ
+  pub most : ℕ
 
-abbrev pub later : ℕ → ℕ → ℕ → Run → Sums
-later i p q r = record { ending = r.ending; rounds = i + r.rounds; passes = p + r.passes; count = q + length r.queries }
+abbrev pub later : ℕ → ℕ → ℕ → ℕ → Run → Sums
+later i p q m r = record {
+  ending = r.ending;
+  rounds = i + r.rounds;
+  passes = p + r.passes;
+  count = q + length r.queries;
+  most = max m r.comparisons;
+}
 
-abbrev ends : Ending → ℕ → ℕ → ℕ → Sums
-ends e i p q = record { ending = e; rounds = i; passes = p; count = q }
+abbrev ends : Ending → ℕ → ℕ → ℕ → ℕ → Sums
+ends e i p q m = record { ending = e; rounds = i; passes = p; count = q; most = m }
 
-ends_same : (e : Ending) {i j p q m n : ℕ} → i ≡ j → p ≡ q → m ≡ n → ends e i p m ≡ ends e j q n
-ends_same e {i} {j} {p} {q} {m} {n} a b c = ap (λ (x : ℕ). ends e x p m) a ∙ ap (λ (x : ℕ). ends e j x m) b ∙ ap (λ (x : ℕ). ends e j q x) c
+ends_same : (e : Ending) {i j p r q u m n : ℕ} → i ≡ j → p ≡ r → q ≡ u → m ≡ n → ends e i p q m ≡ ends e j r u n
+ends_same e a b c d = cc
 
-module _ (i p q x : ℕ) (qs : List (List ℕ)) (s : State) (f : State → Run) where
-  carry-on : (v : Verdict) → stopped v ≡ false → later (i + 1) (p + x) (q + length qs) (f s) ≡ later i p q (carry x qs (nextOf v s) f)
+same_counts : (f : ℕ → ℕ → ℕ → Sums) {a b c d u v : ℕ} → a ≡ b → c ≡ d → u ≡ v → f a c u ≡ f b d v
+same_counts f x y z = cc
+
+-- a round of x passes, the queries qs and y comparisons
+module _ (i p q m x y : ℕ) (qs : List (List ℕ)) (s : State) (f : State → Run) where
+  carry-on : (v : Verdict) → stopped v ≡ false → later (i + 1) (p + x) (q + length qs) (max m y) (f s) ≡ later i p q m (carry x qs y (nextOf v s) f)
   unfolding stopped nextOf carry
   carry-on GoOn h =
       let r = f s in
       let a : i + 1 + r.rounds ≡ i + suc r.rounds = omega arith in
       let b : p + x + r.passes ≡ p + (x + r.passes) = omega arith in
       let c : q + length qs + length r.queries ≡ q + length (qs ++ r.queries) = omega (arith, length-append qs r.queries) in
-      ends_same r.ending a b c
+      let d : max (max m y) r.comparisons ≡ max m (max y r.comparisons) = omega arith in
+      ends_same r.ending a b c d
   carry-on Done h = absurd (true≢false h)
-  carry-on (Refused y) h = absurd (true≢false h)
+  carry-on (Refused z) h = absurd (true≢false h)
 
-  refusal-ends : (y : ℕ) → 1 ≤ y → endingOf y s ≡ refused y
+  refusal-ends : (z : ℕ) → 1 ≤ z → endingOf z s ≡ refused z
   unfolding endingOf
   refusal-ends zero h = let none : ⊥ = omega arith in absurd none
-  refusal-ends (suc y) h = refl
+  refusal-ends (suc z) h = refl
 
   carry-ends : (v : Verdict) → stopped v ≡ true → Lawful (nextOf v s)
-      → ends (endingOf (refusalOf v) s) (i + 1) (p + x) (q + length qs) ≡ later i p q (carry x qs (nextOf v s) f)
+      → ends (endingOf (refusalOf v) s) (i + 1) (p + x) (q + length qs) (max m y) ≡ later i p q m (carry x qs y (nextOf v s) f)
   unfolding stopped nextOf carry refusalOf endingOf
   carry-ends GoOn h w = absurd (true≢false (sym h))
   carry-ends Done h w = refl
-  carry-ends (Refused y) h w = ap (λ (e : Ending). ends e (i + 1) (p + x) (q + length qs)) (refusal-ends y w)
+  carry-ends (Refused z) h w = ap (λ (e : Ending). ends e (i + 1) (p + x) (q + length qs) (max m y)) (refusal-ends z w)
 
 loop-next : (k : Fixed) (ss ds : List Float) (n : ℕ) (s : State)
-    → loop k ss ds (suc n) s ≡ carry (round k ss ds s).passes (round k ss ds s).found.queries (round k ss ds s).found.next (λ t. loop k ss ds n t)
+    → (let r = round k ss ds s in loop k ss ds (suc n) s ≡ carry r.passes r.found.queries r.found.comparisons r.found.next (λ t. loop k ss ds n t))
 unfolding loop
 loop-next k ss ds n s = refl
 
@@ -166,56 +178,64 @@ module _ (k : Settings) (n : ℕ) (ss ds : List Float) (h : Held) (l after : Lis
   turn-lawful : Lawful (nextOf s.verdict (heldState n s.held after))
   turn-lawful = subst Lawful (sym d.next) (round-fair (fixedOf k) ss ds (heldState n h l)).0
 
-  module _ (most i p q : ℕ) (less : i < most) {whole : Sums} (left : later i p q (loop (fixedOf k) ss ds (most - i) (heldState n h l)) ≡ whole) where
-    turn : later i p q (carry (round (fixedOf k) ss ds (heldState n h l)).passes (round (fixedOf k) ss ds (heldState n h l)).found.queries (nextOf s.verdict (heldState n s.held after))
-        (λ t. loop (fixedOf k) ss ds (most - (i + 1)) t)) ≡ whole
+  module _ (most i p q m : ℕ) (less : i < most) {whole : Sums}
+      (left : later i p q m (loop (fixedOf k) ss ds (most - i) (heldState n h l)) ≡ whole) where
+    abbrev this : Round
+    this = round (fixedOf k) ss ds (heldState n h l)
+
+    -- the rounds after it
+    abbrev onward : State → Run
+    onward t = loop (fixedOf k) ss ds (most - (i + 1)) t
+
+    abbrev next : State
+    next = heldState n s.held after
+
+    turn : later i p q m (carry this.passes this.found.queries this.found.comparisons (nextOf s.verdict next) onward) ≡ whole
     turn =
-        let r = round (fixedOf k) ss ds (heldState n h l) in
         let e : most - i ≡ suc (most - (i + 1)) = omega arith in
-        ap (λ (x : Next). later i p q (carry r.passes r.found.queries x (λ t. loop (fixedOf k) ss ds (most - (i + 1)) t))) d.next
-        ∙ ap (later i p q) (sym (loop-next (fixedOf k) ss ds (most - (i + 1)) (heldState n h l)))
-        ∙ sym (ap (λ (x : ℕ). later i p q (loop (fixedOf k) ss ds x (heldState n h l))) e) ∙ left
+        ap (λ (x : Next). later i p q m (carry this.passes this.found.queries this.found.comparisons x onward)) d.next
+        ∙ ap (later i p q m) (sym (loop-next (fixedOf k) ss ds (most - (i + 1)) (heldState n h l)))
+        ∙ sym (ap (λ (x : ℕ). later i p q m (loop (fixedOf k) ss ds x (heldState n h l))) e) ∙ left
 
-    pub turn_on : {t : Bool} → t ≡ stopped s.verdict → t ≡ false
-        → later (i + 1) (p + s.passes) (q + s.queries) (loop (fixedOf k) ss ds (most - (i + 1)) (heldState n s.held after)) ≡ whole
-    turn_on f g =
-        let r = round (fixedOf k) ss ds (heldState n h l) in
-        let next = loop (fixedOf k) ss ds (most - (i + 1)) (heldState n s.held after) in
-        ap (λ (x : ℕ). later (i + 1) (p + x) (q + s.queries) next) d.passes ∙ ap (λ (x : ℕ). later (i + 1) (p + r.passes) (q + x) next) d.count
-        ∙ carry-on i p q r.passes r.found.queries (heldState n s.held after) (λ t. loop (fixedOf k) ss ds (most - (i + 1)) t) s.verdict (sym f ∙ g) ∙ turn
+    -- t, y and o: whether the rounds end here, with what refusal, and the most comparisons by then
+    pub turn_on : {t : Bool} {o : ℕ} → t ≡ stopped s.verdict → t ≡ false → o ≡ max m s.comparisons
+        → later (i + 1) (p + s.passes) (q + s.queries) o (onward next) ≡ whole
+    turn_on f g e =
+        same_counts (λ a b c. later (i + 1) (p + a) (q + b) c (onward next)) d.passes d.count (e ∙ ap (max m) d.comparisons)
+        ∙ carry-on i p q m this.passes this.found.comparisons this.found.queries next onward s.verdict (sym f ∙ g) ∙ turn
 
-    pub turn-ends : {t : Bool} {y : ℕ} → t ≡ stopped s.verdict → t ≡ true → y ≡ refusalOf s.verdict
-        → ends (endingOf y (heldState n s.held after)) (i + 1) (p + s.passes) (q + s.queries) ≡ whole
-    turn-ends f g y =
-        let r = round (fixedOf k) ss ds (heldState n h l) in
-        let st = heldState n s.held after in
-        ap (λ (x : ℕ). ends (endingOf x st) (i + 1) (p + s.passes) (q + s.queries)) y
-        ∙ ap (λ (x : ℕ). ends (endingOf (refusalOf s.verdict) st) (i + 1) (p + x) (q + s.queries)) d.passes
-        ∙ ap (λ (x : ℕ). ends (endingOf (refusalOf s.verdict) st) (i + 1) (p + r.passes) (q + x)) d.count
-        ∙ carry-ends i p q r.passes r.found.queries st (λ t. loop (fixedOf k) ss ds (most - (i + 1)) t) s.verdict (sym f ∙ g) turn-lawful ∙ turn
+    pub turn-ends : {t : Bool} {y o : ℕ} → t ≡ stopped s.verdict → t ≡ true → y ≡ refusalOf s.verdict → o ≡ max m s.comparisons
+        → ends (endingOf y next) (i + 1) (p + s.passes) (q + s.queries) o ≡ whole
+    turn-ends {o = o} f g y e =
+        ap (λ (x : ℕ). ends (endingOf x next) (i + 1) (p + s.passes) (q + s.queries) o) y
+        ∙ same_counts (λ a b c. ends (endingOf (refusalOf s.verdict) next) (i + 1) (p + a) (q + b) c) d.passes d.count (e ∙ ap (max m) d.comparisons)
+        ∙ carry-ends i p q m this.passes this.found.comparisons this.found.queries next onward s.verdict (sym f ∙ g) turn-lawful ∙ turn
 
 -- ---- before the first round, after the last, and the answer
 
 abbrev pub totals : Run → Sums
-totals r = ends r.ending r.rounds r.passes (length r.queries)
+totals r = ends r.ending r.rounds r.passes (length r.queries) r.comparisons
 
 module _ (k : Fixed) (ss ds : List Float) (most : ℕ) (s : State) where
-  pub rounds-end : (i p q : ℕ) {whole : Sums} → most ≤ i → later i p q (loop k ss ds (most - i) s) ≡ whole → ends (endingOf 0 s) i p q ≡ whole
+  pub rounds-end : (i p q m : ℕ) {whole : Sums} → most ≤ i → later i p q m (loop k ss ds (most - i) s) ≡ whole → ends (endingOf 0 s) i p q m ≡ whole
   unfolding loop endingOf
-  rounds-end i p q h left =
+  rounds-end i p q m h left =
       let e : most - i ≡ 0 = omega arith in
       let a : i ≡ i + 0 = omega arith in
       let b : p ≡ p + 0 = omega arith in
       let c : q ≡ q + 0 = omega arith in
-      ends_same (ended s) a b c ∙ sym (ap (λ (x : ℕ). later i p q (loop k ss ds x s)) e) ∙ left
+      let d : m ≡ max m 0 = omega arith in
+      ends_same (ended s) a b c d ∙ sym (ap (λ (x : ℕ). later i p q m (loop k ss ds x s)) e) ∙ left
 
 pub ran : (k : Settings) (n : ℕ) (ss ds : List Float) (most : ℕ) (h : Held) (before after : List ℕ) (r : Ran)
-    → ends (endingOf r.refusal (heldState n r.held after)) r.rounds r.passes r.queries ≡ totals (loop (fixedOf k) ss ds most (heldState n h before))
+    → ends (endingOf r.refusal (heldState n r.held after)) r.rounds r.passes r.queries r.comparisons
+    ≡ totals (loop (fixedOf k) ss ds most (heldState n h before))
     → Fits k n r.held → RanTo k n ss ds most h before after r
 ran k n ss ds most h before after r e f = record {
   ending = ap (λ (x : Sums). x.ending) e;
   rounds = ap (λ (x : Sums). x.rounds) e;
   passes = ap (λ (x : Sums). x.passes) e;
   count = ap (λ (x : Sums). x.count) e;
+  comparisons = ap (λ (x : Sums). x.most) e;
   fits = f;
 }

@@ -127,7 +127,7 @@ module _ (g : Given) (sa sb da db : List Float) (ls : length sa ≡ length sb) (
       closed_same : (c : Closed) (r : Run) → ClosedShared sa sb da db c → closed a c r ≡ closed b c r
       unfolding closed
       closed_same unsound r h = refl
-      closed_same (fine p ms) r h = λ i. ok (reported (fixed_same i) p ms (rows_same sa sb da db ms h i)) r.rounds r.passes (length r.queries)
+      closed_same (fine p ms) r h = λ i. ok (reported (fixed_same i) p ms (rows_same sa sb da db ms h i)) r.rounds r.passes (length r.queries) r.comparisons
 
       finished-same : (e : Ending) (r : Run) → EndShared sa sb da db e → finished a e r ≡ finished b e r
       unfolding finished

@@ -9,10 +9,10 @@ use Rattle.query.specs.Query.{empty}
 use Rattle.wcs_refine.specs.Round.{State, Ending, refused, ended, Run, loop}
 use Rattle.wcs_refine.specs.Closing.{Closed, unsound, fine, mostClips, cleaned, Report, reported}
 
--- A refusal's number, or the report with rounds, fit passes and queries, in this order.
+-- A refusal's number, or the report with rounds, fit passes, queries and the most comparisons of a round, in this order.
 pub data Answer : Type 0 where
   no : ℕ → Answer
-  ok : Report → ℕ → ℕ → ℕ → Answer
+  ok : Report → ℕ → ℕ → ℕ → ℕ → Answer
 
 -- "Working state", before the first round: the start pose, `current_matches = initial_matches`, and `reassoc_cache = None`.
 unfoldable pub start : Given → State
@@ -35,12 +35,12 @@ unfolding runOf refusal
 queries c = queriesAfter c (refusal c)
 
 -- After the closing clips: refusal 12, or what is reported. "Reported beside it are rounds, fit passes and queries, as the Rust counts WCS_OUTER,
--- WCS_INNER and WCS_REASSOC_CALL": those of the run.
+-- WCS_INNER and WCS_REASSOC_CALL": those of the run; 02, CR 14: "beside the counts that demand 2 compares with the Rust's", its comparisons.
 unfoldable pub closed : Call → Closed → Run → Answer
 unfolding reported rows fixed
 closed c unsound r = no 12
 closed c (fine p ms) r =
-    ok (reported (fixed c) p ms (rows c.spots c.directions ms)) r.rounds r.passes (length r.queries)
+    ok (reported (fixed c) p ms (rows c.spots c.directions ms)) r.rounds r.passes (length r.queries) r.comparisons
 
 -- After the loop: the refusal that it met, 12 or 13, or the closing clips from the state that it ended in.
 unfoldable pub finished : Call → Ending → Run → Answer
@@ -78,7 +78,7 @@ unfoldable pub left : Lent → ℕ → Answer → Lent
 unfolding cleared
 left l (suc n) a = l
 left l zero (no n) = cleared l.result l
-left l zero (ok r rounds passes queries) = cleared (r.matches ++ drop (length r.matches) l.result) l
+left l zero (ok r rounds passes queries comparisons) = cleared (r.matches ++ drop (length r.matches) l.result) l
 
 -- What a call answers, and what the lent lists hold afterwards.
 pub record Outcome : Type 0 where

@@ -1,9 +1,11 @@
 -- The new matches of a round, and whether they are the present ones, by a table with a place for each spot: what the code's parts promise.
 -- Definitions only. Assumes nothing.
-use Rattle.std.specs.Prelude.{◌≡◌, ℕ, ◌+◌, ◌-◌, ◌*◌, ◌<◌, ◌≤◌, Bool, false, not, ◌&&◌, ◌||◌, List, [], ◌∷◌, length, take, drop, ◌==◌, nat_lt, slice_index, Float}
+use Rattle.std.specs.Prelude.{◌≡◌, ℕ, ◌+◌, ◌-◌, ◌*◌, ◌<◌, ◌≤◌, Bool, false, cond, not, ◌&&◌, ◌||◌, List, [], ◌∷◌, length, take, drop, ◌==◌, nat_lt, slice_index, Float}
 use Rattle.std.proofs.Math.Seq.{slice}
 use Rattle.rounding.specs.Arith.{◌⊗◌}
 use Rattle.pairs.specs.Pairs.{pairs, spotsWithin}
+use Rattle.matching.specs.Merge.{notAfter}
+use Rattle.matching.specs.Comparisons.{comparisons}
 use Rattle.matching.specs.Greedy.{flat, matchesOf}
 use Rattle.pairs.specs.Candidates.{capacity}
 use Rattle.wcs_refine.specs.Associate.{Link, links, sameMatches}
@@ -87,12 +89,15 @@ pub record NewAt (n within t : ℕ) (new before after : List ℕ) : Type 0 where
   pub zeros : (s : ℕ) → s < within → slice_index after (4 * n + s) ≡ 0
   pub list : slice (8 * n) (8 * n + 2 * t) after ≡ new
 
--- The matches of the spots' points with the q predictions, unless there are more pairs than the candidate lists hold.
+-- The matches of the spots' points with the q predictions, and the comparisons for them, unless there are more pairs than the candidate lists hold.
 pub record FoundTo (n q : ℕ) (points : List Float) (limit : ℕ) (r : Float) (floats distances : List Float)
     (indices before after : List ℕ) (f : Tally) : Type 0 where
   pub full : f.full
       ≡ nat_lt (capacity distances indices) (length (pairs points limit (slice (2 * n) (2 * n + 2 * q) floats) (r ⊗ r)))
   pub within : f.within ≡ spotsWithin points limit
+  pub comparisons : f.comparisons
+      ≡ cond f.full 0
+      (comparisons notAfter (pairs points limit (slice (2 * n) (2 * n + 2 * q) floats) (r ⊗ r)))
   pub found : f.full ≡ false
       → (f.count ≡ length (matchesOf points limit (slice (2 * n) (2 * n + 2 * q) floats) (r ⊗ r)))
       × NewAt n f.within f.count

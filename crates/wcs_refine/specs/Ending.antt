@@ -19,15 +19,15 @@ pub record Begun (matches : List ℕ) (rotation : List (List Float)) (scale : Fl
   pub cached : h.cached ≡ 0
 
 -- The answer after the closing clips, from the numbers that the run is given once and its counts.
-unfoldable pub concluded : Fixed → List Float → List Float → Closed → ℕ → ℕ → ℕ → Answer
-concluded k spots directions unsound rounds passes queries = no 12
-concluded k spots directions (fine p ms) rounds passes queries =
-    ok (reported k p ms (rows spots directions ms)) rounds passes queries
+unfoldable pub concluded : Fixed → List Float → List Float → Closed → ℕ → ℕ → ℕ → ℕ → Answer
+concluded k spots directions unsound rounds passes queries comparisons = no 12
+concluded k spots directions (fine p ms) rounds passes queries comparisons =
+    ok (reported k p ms (rows spots directions ms)) rounds passes queries comparisons
 
 -- The result list after an answer: it starts with the matches, or is as it came.
 unfoldable pub resultAfter : List ℕ → Answer → List ℕ
 resultAfter l (no n) = l
-resultAfter l (ok r rounds passes queries) = r.matches ++ drop (length r.matches) l
+resultAfter l (ok r rounds passes queries comparisons) = r.matches ++ drop (length r.matches) l
 
 -- The values handed back, and the result list, are those of an answer.
 pub record Answered (a : Answer) (before after : List ℕ) (r : WcsRefineResult) : Type 0 where

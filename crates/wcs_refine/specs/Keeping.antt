@@ -12,7 +12,7 @@ use Rattle.entry.specs.Entry.{fixedOf}
 use Rattle.query.specs.Query.{Cache, empty, full, Prediction}
 use Rattle.wcs_refine.specs.Associate.{laid}
 use Rattle.wcs_refine.specs.Listing.{idsOf}
-use Rattle.wcs_refine.specs.Round.{State, Next, go, done, refuse, associated, searched, round, Ending, refused, ended, loop}
+use Rattle.wcs_refine.specs.Round.{State, Next, go, done, refuse, associated, compared, searched, round, Ending, refused, ended, loop}
 use Rattle.query.specs.declared.Held.{Held}
 use Rattle.wcs_refine.specs.declared.keeping.Verdict.{Verdict}
 use Rattle.wcs_refine.specs.declared.keeping.Verdict.TheVariants.{GoOn, Done, Refused}
@@ -105,6 +105,7 @@ pub record AssociatedTo (k : Settings) (n : ℕ) (points : List Float) (h : Held
   pub next : (qs : List Prediction) → Predicted n q before floats qs →
       nextOf s.verdict (heldState n s.held after)
       ≡ associated (fixedOf k) points h.pose (heldMatches h before) (heldCache n h before) r qs
+  pub comparisons : (qs : List Prediction) → Predicted n q before floats qs → s.comparisons ≡ compared (fixedOf k) points r qs
   pub fits : Fits k n s.held
 
 -- What the search makes of a state comes down to the matcher on the predictions that now stand in their regions.
@@ -121,6 +122,7 @@ pub record LookedTo (k : Settings) (n : ℕ) (directions : List Float) (h : Held
             associated (fixedOf k) (pointsOf spots k.limit) h.pose ms (heldCache n r.held after) radius
             predictions;
         queries = queries;
+        comparisons = compared (fixedOf k) (pointsOf spots k.limit) radius predictions;
       }
   pub count : r.queries ≡ length queries
   pub pose : r.held.pose ≡ h.pose
@@ -136,6 +138,8 @@ pub record SearchedTo (k : Settings) (n : ℕ) (spots directions : List Float) (
   pub count : s.queries
       ≡ length
       (searched (fixedOf k) spots directions h.pose (heldMatches h before) radius (heldCache n h before)).queries
+  pub comparisons : s.comparisons
+      ≡ (searched (fixedOf k) spots directions h.pose (heldMatches h before) radius (heldCache n h before)).comparisons
   pub fits : Fits k n s.held
 
 -- ---- one round, and the loop
@@ -146,6 +150,7 @@ pub record RoundTo (k : Settings) (n : ℕ) (spots directions : List Float) (h :
   pub next : nextOf s.verdict (heldState n s.held after)
       ≡ (round (fixedOf k) spots directions (heldState n h before)).found.next
   pub count : s.queries ≡ length (round (fixedOf k) spots directions (heldState n h before)).found.queries
+  pub comparisons : s.comparisons ≡ (round (fixedOf k) spots directions (heldState n h before)).found.comparisons
   pub passes : s.passes ≡ (round (fixedOf k) spots directions (heldState n h before)).passes
   pub fits : Fits k n s.held
 
@@ -162,4 +167,5 @@ pub record RanTo (k : Settings) (n : ℕ) (spots directions : List Float) (most 
   pub rounds : r.rounds ≡ (loop (fixedOf k) spots directions most (heldState n h before)).rounds
   pub passes : r.passes ≡ (loop (fixedOf k) spots directions most (heldState n h before)).passes
   pub count : r.queries ≡ length (loop (fixedOf k) spots directions most (heldState n h before)).queries
+  pub comparisons : r.comparisons ≡ (loop (fixedOf k) spots directions most (heldState n h before)).comparisons
   pub fits : Fits k n r.held

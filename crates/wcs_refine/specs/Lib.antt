@@ -13,3 +13,4 @@ pub mod Stepping
 pub mod Ending
 pub mod Comparing
 pub mod Meaning
+pub mod Ceiling

@@ -20,6 +20,7 @@ refusedWith n =
       rounds = 0;
       passes = 0;
       queries = 0;
+      comparisons = 0;
       pose = p;
       cd0 = z2;
       cd1 = z2;
@@ -30,13 +31,14 @@ refusedWith n =
     }
 
 -- An accepted call: no refusal, the counts, and the report with its matrices by rows.
-unfoldable pub accepted : Report → ℕ → ℕ → ℕ → WcsRefineResult
-accepted r rounds passes queries = record {
+unfoldable pub accepted : Report → ℕ → ℕ → ℕ → ℕ → WcsRefineResult
+accepted r rounds passes queries comparisons = record {
   refusal = 0;
   matches = length r.matches / 2;
   rounds = rounds;
   passes = passes;
   queries = queries;
+  comparisons = comparisons;
   pose = r.pose;
   cd0 = row r.cd 0;
   cd1 = row r.cd 1;
@@ -50,7 +52,7 @@ accepted r rounds passes queries = record {
 unfoldable pub valuesOf : Answer → WcsRefineResult
 unfolding refusedWith accepted
 valuesOf (no n) = refusedWith n
-valuesOf (ok r rounds passes queries) = accepted r rounds passes queries
+valuesOf (ok r rounds passes queries comparisons) = accepted r rounds passes queries comparisons
 
 -- What a call hands back, and what the lent lists hold then.
 pub record Returned : Type 0 where

@@ -1,7 +1,9 @@
 -- One round of `wcs_refine`'s outer loop, on any state, and the loop. Definitions only. Assumes nothing.
-use Rattle.std.specs.Prelude.{ℕ, zero, suc, ◌+◌, ◌/◌, Bool, true, false, cond, not, ◌&&◌, List, [], ◌∷◌, ◌++◌, length, nat_le, nat_lt, Float}
+use Rattle.std.specs.Prelude.{ℕ, zero, suc, ◌+◌, ◌/◌, max, Bool, true, false, cond, not, ◌&&◌, List, [], ◌∷◌, ◌++◌, length, nat_le, nat_lt, Float}
 use Rattle.rounding.specs.Arith.{◌⊗◌}
 use Rattle.pairs.specs.Pairs.{pairs}
+use Rattle.matching.specs.Merge.{notAfter}
+use Rattle.matching.specs.Comparisons.{comparisons}
 use Rattle.matching.specs.Greedy.{matchesOf}
 use Rattle.project.specs.Camera.{boresight, cameraRows}
 use Rattle.panel.specs.Points.{pointsOf}
@@ -26,10 +28,11 @@ pub data Next : Type 0 where
   done : State → Next
   refuse : ℕ → Next
 
--- What the search of a round comes to, and the queries that it made, each with the directions it lists.
+-- What the search of a round comes to, the queries that it made, each with the directions it lists, and how often it compared two pairs.
 pub record Found : Type 0 where
   pub next : Next
   pub queries : List (List ℕ)
+  pub comparisons : ℕ
 
 -- What a round comes to: its search, and how many fit passes it made.
 pub record Round : Type 0 where
@@ -55,9 +58,16 @@ associated k points p ms c r qs =
     cond (nat_lt k.capacity (length (pairs points k.limit (laid qs) (r ⊗ r)))) (refuse 13)
     (settled p ms c (renamed qs (matchesOf points k.limit (laid qs) (r ⊗ r))))
 
+-- 02, CR 14: "The matcher's ordering of pairs shall count its comparisons". A round that is refused with 13 orders none.
+unfoldable pub compared : Fixed → List Float → Float → List Prediction → ℕ
+unfolding laid pairs comparisons notAfter
+compared k points r qs =
+    cond (nat_lt k.capacity (length (pairs points k.limit (laid qs) (r ⊗ r)))) 0
+    (comparisons notAfter (pairs points k.limit (laid qs) (r ⊗ r)))
+
 -- Phase D after the fresh query `listed`: it is counted, and what lies beyond keep_r is not cached.
 unfoldable pub fresh : Fixed → List Float → List Float → Pose → List ℕ → Float → List ℕ → Found
-unfolding associated pointsOf predictions pruned cameraRows boresight
+unfolding associated compared pointsOf predictions pruned cameraRows boresight
 fresh k spots directions p ms r listed =
     let rows = cameraRows p.theta p.ra p.dec in
     record {
@@ -66,18 +76,22 @@ fresh k spots directions p ms r listed =
           (full (boresight p.ra p.dec) p.theta (pruned k directions rows listed)) r
           (predictions k directions rows listed);
       queries = listed ∷ [];
+      comparisons = compared k (pointsOf spots k.limit) r (predictions k directions rows listed);
     }
 
 -- Phase D with the query cached at boresight b and roll theta: a fresh one where the pose has drifted from it, else the cached one, uncounted.
 unfoldable pub reused : Fixed → List Float → List Float → Pose → List ℕ → Float → List Float → Float → List ℕ → Bool
     → Found
-unfolding fresh associated pointsOf predictions query cameraRows
+unfolding fresh associated compared pointsOf predictions query cameraRows
 reused k spots directions p ms r b theta listed true = fresh k spots directions p ms r (query k directions p)
 reused k spots directions p ms r b theta listed false = record {
   next =
       associated k (pointsOf spots k.limit) p ms (full b theta listed) r
       (predictions k directions (cameraRows p.theta p.ra p.dec) listed);
   queries = [];
+  comparisons =
+      compared k (pointsOf spots k.limit) r
+      (predictions k directions (cameraRows p.theta p.ra p.dec) listed);
 }
 
 -- Phase D, "Re-associate", with the matcher's radius r: "(Re)query the catalog cone only when the cache is empty or the fit has drifted past a margin."
@@ -94,14 +108,15 @@ rest k spots directions p ms c rs =
     let t = statistics rs in
     searched k spots directions p (clipped rs t ms) (adaptivePx k t) c
 
--- After Phase A: where its passes met refusal 12 the round ends with it, and makes no query; else phases B to D at the pose that they left.
+-- After Phase A: where its passes met refusal 12 the round ends with it, and makes no query and no comparison; else phases B to D at the pose that they
+-- left.
 unfoldable pub fitted : Fixed → List Float → List Float → State → List Row → Passes → Round
 unfolding rest residuals viewOf
 fitted k spots directions s rs f = record {
   found =
       cond f.fine
       (rest k spots directions f.pose s.matches s.cache (residuals (viewOf f.pose k.cut) rs))
-      (record { next = refuse 12; queries = [] });
+      (record { next = refuse 12; queries = []; comparisons = 0 });
   passes = f.passes;
 }
 
@@ -123,26 +138,35 @@ pub data Ending : Type 0 where
   refused : ℕ → Ending
   ended : State → Ending
 
--- How the loop ended, after how many rounds and passes, and every query on the way.
+-- How the loop ended, after how many rounds and passes, every query on the way, and the most comparisons of a round.
 pub record Run : Type 0 where
   pub ending : Ending
   pub rounds : ℕ
   pub passes : ℕ
   pub queries : List (List ℕ)
+  pub comparisons : ℕ
 
--- One round, of n passes and the queries qs, and what follows it by what it came to. "Reported .. are rounds, fit passes and queries, as the Rust
--- counts WCS_OUTER, WCS_INNER and WCS_REASSOC_CALL": a round counts once, its passes and queries before those of the rounds after it.
-unfoldable pub carry : ℕ → List (List ℕ) → Next → (State → Run) → Run
-carry n qs (go s) f =
+-- One round, of n passes, the queries qs and m comparisons, and what follows it by what it came to. "Reported .. are rounds, fit passes and queries, as
+-- the Rust counts WCS_OUTER, WCS_INNER and WCS_REASSOC_CALL": a round counts once, its passes and queries before those of the rounds after it.
+-- 02, CR 14: "and report the largest count of any round".
+unfoldable pub carry : ℕ → List (List ℕ) → ℕ → Next → (State → Run) → Run
+carry n qs m (go s) f =
     let r = f s in
-    record { ending = r.ending; rounds = suc r.rounds; passes = n + r.passes; queries = qs ++ r.queries }
-carry n qs (done s) f = record { ending = ended s; rounds = 1; passes = n; queries = qs }
-carry n qs (refuse x) f = record { ending = refused x; rounds = 1; passes = n; queries = qs }
+    record {
+      ending = r.ending;
+      rounds = suc r.rounds;
+      passes = n + r.passes;
+      queries = qs ++ r.queries;
+      comparisons = max m r.comparisons;
+    }
+carry n qs m (done s) f = record { ending = ended s; rounds = 1; passes = n; queries = qs; comparisons = m }
+carry n qs m (refuse x) f = record { ending = refused x; rounds = 1; passes = n; queries = qs; comparisons = m }
 
 -- `for outer_iter in 0..max_iterations`: at most so many rounds.
 unfoldable pub loop : Fixed → List Float → List Float → ℕ → State → Run
 unfolding carry round
-loop k spots directions zero s = record { ending = ended s; rounds = 0; passes = 0; queries = [] }
+loop k spots directions zero s =
+    record { ending = ended s; rounds = 0; passes = 0; queries = []; comparisons = 0 }
 loop k spots directions (suc n) s =
     let r = round k spots directions s in
-    carry r.passes r.found.queries r.found.next (λ t. loop k spots directions n t)
+    carry r.passes r.found.queries r.found.comparisons r.found.next (λ t. loop k spots directions n t)

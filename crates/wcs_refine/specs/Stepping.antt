@@ -60,4 +60,5 @@ pub record RestTo (k : Settings) (n : ℕ) (spots directions : List Float) (h : 
     (s : Sought) : Type 0 where
   pub next : nextOf s.verdict (heldState n s.held after) ≡ (restOf k n spots directions h before).next
   pub count : s.queries ≡ length (restOf k n spots directions h before).queries
+  pub comparisons : s.comparisons ≡ (restOf k n spots directions h before).comparisons
   pub fits : Fits k n s.held

@@ -23,6 +23,7 @@ pub(crate) fn refused(number: usize) -> WcsRefineResult
         rounds: 0,
         passes: 0,
         queries: 0,
+        comparisons: 0,
         pose: nowhere,
         cd0: [0.0, 0.0],
         cd1: [0.0, 0.0],
@@ -41,8 +42,9 @@ pub(crate) fn accepted(
     rounds: usize,
     passes: usize,
     queries: usize,
+    comparisons: usize,
 ) -> WcsRefineResult
-    ensures { (ms : List ℕ) → length ms / 2 ≡ used → result ≡ accepted (reportOf report pose ms) rounds passes queries }
+    ensures { (ms : List ℕ) → length ms / 2 ≡ used → result ≡ accepted (reportOf report pose ms) rounds passes queries comparisons }
 {
     let cd0 = report.cd0;
     let cd1 = report.cd1;
@@ -55,6 +57,7 @@ pub(crate) fn accepted(
         rounds,
         passes,
         queries,
+        comparisons,
         pose,
         cd0,
         cd1,

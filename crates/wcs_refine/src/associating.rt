@@ -22,14 +22,17 @@ const FEWEST: usize = 4;
 pub(crate) struct Step {
     pub held: Held,
     pub verdict: Verdict,
+    pub comparisons: usize,
 }
 
-// Whether there are more pairs than the candidate lists hold; how many spots were looked at, and how many matches there are.
+// Whether there are more pairs than the candidate lists hold; how many spots were looked at, how many matches there are, and how often two pairs were
+// compared.
 #[derive(Drop)]
 pub(crate) struct Tally {
     pub full: bool,
     pub within: usize,
     pub count: usize,
+    pub comparisons: usize,
 }
 
 // The matcher works in regions 4 to 7, which are as long as strips, marks and matches can need; its matches go from there to region 8 by their directions.
@@ -63,11 +66,12 @@ fn find(
         indices,
         &mut numbers[work..far],
     );
-    let Matched::Matches(t) = m else {
+    let Matched::Matches(t) = m.matched else {
         return Tally {
             full: true,
             within,
             count: 0,
+            comparisons: 0,
         };
     };
     renamed_into(numbers, 3 * room, q, work + 3 * within + q, t, 8 * room);
@@ -75,6 +79,7 @@ fn find(
         full: false,
         within,
         count: t,
+        comparisons: m.comparisons,
     }
 }
 
@@ -115,6 +120,7 @@ fn associate(
         return Step {
             held,
             verdict: Verdict::Refused(13),
+            comparisons: 0,
         };
     }
     let t = f.count;
@@ -122,12 +128,14 @@ fn associate(
         return Step {
             held,
             verdict: Verdict::Done,
+            comparisons: f.comparisons,
         };
     }
     if same_matches(numbers, 4 * room, f.within, 8 * room, t, held.used) {
         return Step {
             held,
             verdict: Verdict::Done,
+            comparisons: f.comparisons,
         };
     }
     bring_forward(numbers, 8 * room, 2 * t);
@@ -135,6 +143,7 @@ fn associate(
     Step {
         held: next,
         verdict: Verdict::GoOn,
+        comparisons: f.comparisons,
     }
 }
 

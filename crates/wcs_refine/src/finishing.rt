@@ -67,7 +67,7 @@ pub(crate) fn finish(
         (concluded (fixedOf k) spots.now directions.now
         (cleaned (fixedOf k) spots.now directions.now mostClips ran.held.pose
         (take (2 * ran.held.used) numbers.old))
-        ran.rounds ran.passes ran.queries)
+        ran.rounds ran.passes ran.queries ran.comparisons)
         result_list.old result_list.new result }
 {
     let held = ran.held;
@@ -89,5 +89,13 @@ pub(crate) fn finish(
         k.cut,
     );
     lay_over(&numbers[0..to], result_list);
-    accepted(n, last, c.used, ran.rounds, ran.passes, ran.queries)
+    accepted(
+        n,
+        last,
+        c.used,
+        ran.rounds,
+        ran.passes,
+        ran.queries,
+        ran.comparisons,
+    )
 }

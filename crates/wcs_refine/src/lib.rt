@@ -26,7 +26,8 @@ mod rounds; // rounds.rt: one round, and the loop
 mod finishing; // finishing.rt: how the run begins, and the closing that follows it
 
 // The answer: the number of a refusal, or 0 and a pose. Beside the pose: how many matches stand in the result list, the rounds, fit passes and
-// queries of the run, the matrix and the covariance by rows, and the error. Refused, all but the number is zero.
+// queries of the run, the most comparisons by which a round put its pairs in order, the matrix and the covariance by rows, and the error. Refused, all
+// but the number is zero.
 #[derive(Clone, Copy)]
 pub struct WcsRefineResult {
     pub refusal: usize,
@@ -34,6 +35,7 @@ pub struct WcsRefineResult {
     pub rounds: usize,
     pub passes: usize,
     pub queries: usize,
+    pub comparisons: usize,
     pub pose: Pose,
     pub cd0: [f64; 2],
     pub cd1: [f64; 2],

@@ -11,6 +11,7 @@ use crate::keeping::{Verdict, with_used};
 use crate::searching::{Sought, search};
 use entry::{Settings, radius_px};
 use fit::Pose;
+use lists::greater;
 use passes::fit_passes;
 use query::Held;
 use residuals::compute_residuals;
@@ -37,9 +38,10 @@ pub(crate) struct Rounded {
     pub verdict: Verdict,
     pub passes: usize,
     pub queries: usize,
+    pub comparisons: usize,
 }
 
-// How the loop ended: the state, the number of a refusal or 0, and the counts.
+// How the loop ended: the state, the number of a refusal or 0, the counts, and the most comparisons of a round.
 #[derive(Drop)]
 pub(crate) struct Ran {
     pub held: Held,
@@ -47,6 +49,7 @@ pub(crate) struct Ran {
     pub rounds: usize,
     pub passes: usize,
     pub queries: usize,
+    pub comparisons: usize,
 }
 
 // The matcher's radius; the call's own where there are no statistics.
@@ -171,6 +174,7 @@ pub(crate) fn one_round(
             verdict: Verdict::Refused(UNSOUND),
             passes: f.passes,
             queries: 0,
+            comparisons: 0,
         };
     }
     let fitted = f.pose;
@@ -185,6 +189,7 @@ pub(crate) fn one_round(
         verdict,
         passes: f.passes,
         queries: s.queries,
+        comparisons: s.comparisons,
     }
 }
 
@@ -210,6 +215,7 @@ pub(crate) fn run(
     let mut i: usize = 0;
     let mut passes: usize = 0;
     let mut queries: usize = 0;
+    let mut comparisons: usize = 0;
     while i < rounds {
         let s = one_round(
             spots, directions, k, room, h, numbers, floats, distances, indices,
@@ -220,6 +226,7 @@ pub(crate) fn run(
         i += 1;
         passes += s.passes;
         queries += s.queries;
+        comparisons = greater(comparisons, s.comparisons);
         if stops(verdict) {
             let refusal = refusal_of(verdict);
             return Ran {
@@ -228,6 +235,7 @@ pub(crate) fn run(
                 rounds: i,
                 passes,
                 queries,
+                comparisons,
             };
         }
     }
@@ -237,5 +245,6 @@ pub(crate) fn run(
         rounds: i,
         passes,
         queries,
+        comparisons,
     }
 }

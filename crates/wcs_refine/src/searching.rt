@@ -13,6 +13,7 @@ pub(crate) struct Sought {
     pub held: Held,
     pub verdict: Verdict,
     pub queries: usize,
+    pub comparisons: usize,
 }
 
 pub(crate) fn search(
@@ -52,5 +53,6 @@ pub(crate) fn search(
         held: after,
         verdict,
         queries: l.queries,
+        comparisons: s.comparisons,
     }
 }

@@ -12,6 +12,8 @@ unfolding concluded
 returns-then-cap-m c =
     let a = c.args in
     rw (
+      c.unordered.ensures.0,
+      c.unordered.ensures.1,
       c.clear_numbers.ensures,
       cleared-within 0 (2 * a.cap) a.indices.now (omega (arith, c.requires.1)),
       c.clear_floats.ensures,

@@ -1,4 +1,6 @@
 -- `greedy_unique_matches` meets its contract: a `work` list that is too short is answered first, and what follows the pairs is `concluded`'s.
+use mathlib.Core.Path.{refl}
+use mathlib.Core.Logic.{inl}
 use native.Mathlib.Omega.{arith}
 use Rattle.matching.specs.Layout.{outcome}
 use Rattle.matching.proofs.Whole.{in-turn, too_short, given, answered}
@@ -9,8 +11,9 @@ returns-then-work-np c =
     let s2 = c.smaller in
     let s1 = c.spots_within-np in
     let a = c.args in
-    too_short a.points.now a.max_points a.predicted.now a.radius_sq a.distances.now a.indices.now a.work.now
-    s1.result s2.result s1.ensures s2.ensures c.if-work-np.true
+    rw (c.unordered.ensures.0, c.unordered.ensures.1)
+    (too_short a.points.now a.max_points a.predicted.now a.radius_sq a.distances.now a.indices.now a.work.now
+    s1.result s2.result s1.ensures s2.ensures c.if-work-np.true)
 
 pub concluded-requires : goal.concluded-requires
 concluded-requires c =
@@ -23,9 +26,10 @@ concluded-requires c =
     s1.result c.smaller-cap.result s1.ensures c.smaller-cap.ensures d' ix' c.collect-m.result c.collect-m.ensures in (
       omega (arith, c.smaller-cap.ensures, c.collect-m.auto.distances),
       omega (arith, c.smaller-cap.ensures, c.collect-m.auto.indices),
+      inl refl,
       rw (← s2.ensures) c.if-work-np.false,
       given a.points.now a.max_points a.predicted.now a.radius_sq a.distances.now a.indices.now
-          s1.result c.smaller-cap.result s1.ensures c.smaller-cap.ensures c.collect-m.result d' ix' did,
+          s1.result c.smaller-cap.result s1.ensures c.smaller-cap.ensures c.collect-m.result 0 d' ix' did,
     )
 
 pub returns : goal.returns
@@ -38,7 +42,7 @@ returns c =
     let did = in-turn a.points.now a.max_points a.predicted.now a.radius_sq a.distances.now a.indices.now
     s1.result c.smaller-cap.result s1.ensures c.smaller-cap.ensures d' ix' c.collect-m.result c.collect-m.ensures in
     answered a.points.now a.max_points a.predicted.now a.radius_sq a.distances.now a.indices.now
-    s1.result c.smaller-cap.result s1.ensures c.smaller-cap.ensures c.collect-m.result d' ix' did
+    s1.result c.smaller-cap.result s1.ensures c.smaller-cap.ensures c.collect-m.result 0 d' ix' did
     a.work.now s2.result s2.ensures c.if-work-np.false
-    (outcome c.concluded.result c.concluded.new.distances c.concluded.new.indices c.concluded.new.work)
+    (outcome c.concluded.result.matched c.concluded.result.comparisons c.concluded.new.distances c.concluded.new.indices c.concluded.new.work)
     c.concluded.ensures

@@ -1,7 +1,11 @@
--- `greedy_unique_matches_by_strips` meets its contract: what was gathered by strips is what is gathered without them, in another order, and the part of
--- `work` behind the strips' room is what the other call would have been given.
+-- `greedy_unique_matches_by_strips` meets its contract: what was found by strips and put by spot is what is found without them, and the part of `work`
+-- behind the strips' room is what the other call would have been given.
+use mathlib.Core.Path.{refl}
+use mathlib.Core.Logic.{inr}
+use Prim.Native.Nat.{◌*◌, ◌≤◌}
 use native.Mathlib.Omega.{arith}
-use Rattle.matching.proofs.Whole.{by-strips, given, too-short-for-strips, enough-lent, answered-by-strips}
+use lib.ListN.{length}
+use Rattle.matching.proofs.Whole.{by-strips, given, room-again, too-short-for-strips, enough-lent, answered-by-strips}
 use Rattle.matching.proofs.greedy_unique_matches_by_strips.Goals as goal
 
 pub returns-then-work-room : goal.returns-then-work-room
@@ -9,28 +13,9 @@ returns-then-work-room c =
     let s2 = c.smaller in
     let s1 = c.spots_within-np in
     let a = c.args in
-    too-short-for-strips a.points.now a.max_points a.predicted.now a.radius_sq a.distances.now a.indices.now a.work.now
-    s1.result s2.result s1.ensures s2.ensures c.if-work-room.true
-
-pub concluded-requires : goal.concluded-requires
-concluded-requires c =
-    let s2 = c.smaller in
-    let s1 = c.spots_within-np in
-    let a = c.args in
-    let n = c.collect_by_strips-m in
-    let d' = n.new.distances in
-    let ix' = n.new.indices in
-    let v = n.new.work in
-    let did = by-strips a.points.now a.max_points a.predicted.now a.radius_sq a.distances.now a.indices.now
-    s1.result c.smaller-cap.result s1.ensures c.smaller-cap.ensures d' ix' n.result _ n.ensures.0 in (
-      omega (arith, c.smaller-cap.ensures, n.auto.distances),
-      omega (arith, c.smaller-cap.ensures, n.auto.indices),
-      enough-lent a.points.now a.max_points a.predicted.now a.radius_sq a.distances.now a.indices.now
-          s1.result c.smaller-cap.result s1.ensures c.smaller-cap.ensures n.result d' ix' did
-          a.work.now v s2.result s2.ensures c.if-work-room.false n.ensures.1,
-      given a.points.now a.max_points a.predicted.now a.radius_sq a.distances.now a.indices.now
-          s1.result c.smaller-cap.result s1.ensures c.smaller-cap.ensures n.result d' ix' did,
-    )
+    rw (c.unordered.ensures.0, c.unordered.ensures.1)
+    (too-short-for-strips a.points.now a.max_points a.predicted.now a.radius_sq a.distances.now a.indices.now a.work.now
+    s1.result s2.result s1.ensures s2.ensures c.if-work-room.true)
 
 pub returns : goal.returns
 returns c =
@@ -38,13 +23,42 @@ returns c =
     let s1 = c.spots_within-np in
     let a = c.args in
     let n = c.collect_by_strips-m in
-    let d' = n.new.distances in
-    let ix' = n.new.indices in
-    let v = n.new.work in
+    let p = c.put_by_spot in
+    let room : 2 * s1.result ≤ length a.work.now = omega (arith, c.if-work-room.false) in
+    let long : s1.result ≤ length n.new.work = omega (arith, room, n.auto.work) in
     let did = by-strips a.points.now a.max_points a.predicted.now a.radius_sq a.distances.now a.indices.now
-    s1.result c.smaller-cap.result s1.ensures c.smaller-cap.ensures d' ix' n.result _ n.ensures.0 in
+    s1.result c.smaller-cap.result s1.ensures c.smaller-cap.ensures n.new.distances n.new.indices n.result (length a.work.now) n.ensures.0
+    n.auto.distances n.auto.indices p.new.distances p.new.indices n.new.work p.new.counts p.ensures long in
+    let left = room-again a.points.now a.max_points a.predicted.now a.radius_sq a.distances.now a.indices.now
+    s1.result c.smaller-cap.result s1.ensures c.smaller-cap.ensures n.result n.result p.new.distances p.new.indices did
+    a.work.now n.new.work p.new.counts room n.ensures.1 p.ensures.places in
     answered-by-strips a.points.now a.max_points a.predicted.now a.radius_sq a.distances.now a.indices.now
-    s1.result c.smaller-cap.result s1.ensures c.smaller-cap.ensures n.result d' ix' did
-    a.work.now v s2.result s2.ensures c.if-work-room.false n.ensures.1
-    c.concluded.result c.concluded.new.distances c.concluded.new.indices c.concluded.new.work
+    s1.result c.smaller-cap.result s1.ensures c.smaller-cap.ensures n.result n.result p.new.distances p.new.indices did
+    a.work.now p.new.counts s2.result s2.ensures c.if-work-room.false left
+    c.concluded.result.matched c.concluded.result.comparisons c.concluded.new.distances c.concluded.new.indices c.concluded.new.work
     c.concluded.ensures
+
+pub concluded-requires : goal.concluded-requires
+concluded-requires c =
+    let s2 = c.smaller in
+    let s1 = c.spots_within-np in
+    let a = c.args in
+    let n = c.collect_by_strips-m in
+    let p = c.put_by_spot in
+    let room : 2 * s1.result ≤ length a.work.now = omega (arith, c.if-work-room.false) in
+    let long : s1.result ≤ length n.new.work = omega (arith, room, n.auto.work) in
+    let did = by-strips a.points.now a.max_points a.predicted.now a.radius_sq a.distances.now a.indices.now
+    s1.result c.smaller-cap.result s1.ensures c.smaller-cap.ensures n.new.distances n.new.indices n.result (length a.work.now) n.ensures.0
+    n.auto.distances n.auto.indices p.new.distances p.new.indices n.new.work p.new.counts p.ensures long in
+    let left = room-again a.points.now a.max_points a.predicted.now a.radius_sq a.distances.now a.indices.now
+    s1.result c.smaller-cap.result s1.ensures c.smaller-cap.ensures n.result n.result p.new.distances p.new.indices did
+    a.work.now n.new.work p.new.counts room n.ensures.1 p.ensures.places in (
+      omega (arith, c.smaller-cap.ensures, n.auto.distances, p.auto.distances),
+      omega (arith, c.smaller-cap.ensures, n.auto.indices, p.auto.indices),
+      inr refl,
+      enough-lent a.points.now a.max_points a.predicted.now a.radius_sq a.distances.now a.indices.now
+          s1.result c.smaller-cap.result s1.ensures c.smaller-cap.ensures n.result n.result p.new.distances p.new.indices did
+          a.work.now p.new.counts s2.result s2.ensures c.if-work-room.false left,
+      given a.points.now a.max_points a.predicted.now a.radius_sq a.distances.now a.indices.now
+          s1.result c.smaller-cap.result s1.ensures c.smaller-cap.ensures n.result n.result p.new.distances p.new.indices did,
+    )

@@ -2,7 +2,7 @@
 use Rattle.std.proofs.Common.{refl, inl, arith}
 use Rattle.rounding.specs.Arith.{◌⊗◌}
 use Rattle.wcs_refine.proofs.SameLinks.{never}
-use Rattle.wcs_refine.proofs.FindSteps.{too_many, not-over, count-is, reach, long, found-there}
+use Rattle.wcs_refine.proofs.FindSteps.{too_many, not-over, count-is, compared-is, reach, long, found-there}
 use Rattle.wcs_refine.proofs.associating.find.Goals as goal
 
 pub returns-in_default : goal.returns-in_default
@@ -13,6 +13,7 @@ returns-in_default c =
       full = too_many a.room a.q a.points.now a.limit a.floats.now (a.r ⊗ a.r) a.distances.now a.indices.now a.numbers.now c.requires.0 c.requires.1 c.requires.2 c.greedy_unique_matches_by_strips-m.ensures
           c.in_default.not-Matches;
       within = within;
+      comparisons = refl;
       found = λ e. never refl e;
     }
 
@@ -33,6 +34,8 @@ returns c =
     record {
       full = not-over a.room a.q a.points.now a.limit a.floats.now (a.r ⊗ a.r) a.distances.now a.indices.now a.numbers.now c.requires.0 c.requires.1 c.requires.2 c.greedy_unique_matches_by_strips-m.ensures is c.greedy_unique_matches_by_strips-m.auto.work;
       within = within;
+      comparisons = compared-is a.room a.q a.points.now a.limit a.floats.now (a.r ⊗ a.r) a.distances.now a.indices.now a.numbers.now
+          c.requires.0 c.requires.1 c.requires.2 c.greedy_unique_matches_by_strips-m.ensures is c.greedy_unique_matches_by_strips-m.auto.work;
       found = λ e. (
         count-is a.room a.q a.points.now a.limit a.floats.now (a.r ⊗ a.r) a.distances.now a.indices.now a.numbers.now c.requires.0 c.requires.1 c.requires.2 c.greedy_unique_matches_by_strips-m.ensures is c.greedy_unique_matches_by_strips-m.auto.work,
         found-there a.room a.q a.points.now a.limit a.floats.now (a.r ⊗ a.r) a.distances.now a.indices.now a.numbers.now c.requires.0 c.requires.1 c.requires.2 c.greedy_unique_matches_by_strips-m.ensures is c.greedy_unique_matches_by_strips-m.auto.work refl within c.renamed_into.auto.numbers c.renamed_into.ensures,

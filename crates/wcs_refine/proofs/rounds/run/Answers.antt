@@ -25,7 +25,8 @@ returns-then-stops c =
     let l = c.loop-i in
     let o = c.one_round-s in
     ran a.k a.room a.spots.now a.directions.now a.rounds a.held a.numbers.now _ _
-    (turn-ends a.k a.room a.spots.now a.directions.now l.h l.numbers _ o.result o.ensures a.rounds l.i l.passes l.queries c.loop-i-test.true l.invariant.8 c.stops.ensures c.if-stops.true c.refusal_of-refusal.ensures)
+    (turn-ends a.k a.room a.spots.now a.directions.now l.h l.numbers _ o.result o.ensures a.rounds l.i l.passes l.queries l.comparisons
+    c.loop-i-test.true l.invariant.8 c.stops.ensures c.if-stops.true c.refusal_of-refusal.ensures c.greater-comparisons.ensures)
     o.ensures.fits
 
 pub loop-i-preserved : goal.loop-i-preserved
@@ -41,7 +42,8 @@ loop-i-preserved c =
       omega (arith, o.auto, l.invariant.5),
       omega (arith, o.auto, l.invariant.6),
       omega (arith, o.auto, l.invariant.7),
-      turn_on a.k a.room a.spots.now a.directions.now l.h l.numbers _ o.result o.ensures a.rounds l.i l.passes l.queries c.loop-i-test.true l.invariant.8 c.stops.ensures c.if-stops.false,
+      turn_on a.k a.room a.spots.now a.directions.now l.h l.numbers _ o.result o.ensures a.rounds l.i l.passes l.queries l.comparisons
+          c.loop-i-test.true l.invariant.8 c.stops.ensures c.if-stops.false c.greater-comparisons.ensures,
     )
 
 pub returns : goal.returns
@@ -49,4 +51,5 @@ returns c =
     let a = c.args in
     let l = c.loop-i in
     ran a.k a.room a.spots.now a.directions.now a.rounds a.held a.numbers.now _ _
-    (rounds-end (fixedOf a.k) a.spots.now a.directions.now a.rounds (heldState a.room l.h l.numbers) l.i l.passes l.queries (search rules) l.invariant.8) l.invariant.3
+    (rounds-end (fixedOf a.k) a.spots.now a.directions.now a.rounds (heldState a.room l.h l.numbers) l.i l.passes l.queries l.comparisons (search rules)
+    l.invariant.8) l.invariant.3

@@ -11,7 +11,7 @@ invariant-loop-i l =
     (l.i ≤ l.rounds) × (l.passes ≤ 10 * l.i) × (l.queries ≤ l.i) × Fits l.k l.room l.h
     × (length l.numbers ≡ length l.fn.numbers) × (length l.floats ≡ length l.fn.floats) × (length l.distances ≡ length l.fn.distances)
     × (length l.indices ≡ length l.fn.indices)
-    × (later l.i l.passes l.queries (loop (fixedOf l.k) l.spots l.directions (l.rounds - l.i) (heldState l.room l.h l.numbers))
+    × (later l.i l.passes l.queries l.comparisons (loop (fixedOf l.k) l.spots l.directions (l.rounds - l.i) (heldState l.room l.h l.numbers))
     ≡ totals (loop (fixedOf l.k) l.spots l.directions l.rounds (heldState l.room l.fn.held l.fn.numbers)))
 
 abbrev pub decreases-loop-i : goal.decreases-loop-i
