@@ -37,8 +37,9 @@
 #include <stdint.h>
 
 /* Goes up by one wherever a function's arguments, the places of a list or the record change. 2: the plane cut is an argument of
- * raqembu_wcs_refine, a number of the record and a place of measures. 3: a spot has a weight, its third number in lists and in the record. */
-#define RAQEMBU_VERSION 3
+ * raqembu_wcs_refine, a number of the record and a place of measures. 3: a spot has a weight, its third number in lists and in the record.
+ * 4: counts has a place more, for the comparisons, in raqembu_wcs_refine and in raqembu_greedy_unique_matches. */
+#define RAQEMBU_VERSION 4
 
 /* The numbers of a spot in a list: x, y and weight. */
 #define RAQEMBU_SPOT_NUMBERS 3
@@ -57,8 +58,20 @@ extern "C" {
  * those on or behind the projection plane, 0.5 those of length 1 that lie 60 degrees or more off the boresight.
  * limit: only the first so many spots are matched.
  * numbers, floats: working lists. distances, indices: room for candidate pairs. result: takes the matches, spot then direction.
- * counts: 4 places for matches, rounds, fit passes, queries. values: 18 places for theta, RA, Dec, scale; the matrix by rows; the error (rms, in
- * radians); the covariance of theta and the two offsets of the boresight, by rows.
+ * counts: 5 places for matches, rounds, fit passes, queries, comparisons. values: 18 places for theta, RA, Dec, scale; the matrix by rows; the error
+ * (rms, in radians); the covariance of theta and the two offsets of the boresight, by rows.
+ *
+ * Comparisons are a figure for crowded frames: how often two candidate pairs were compared to put them in order, in the round that took the most. A
+ * round has n pairs, each a spot and a direction predicted within the radius of it. They first stand by spot, then prediction, each as a run of its
+ * own. Neighbouring runs are merged two by two from the left: those of 1 pair, then those of 2, then of 4, and so on until one run is left. Two runs
+ * are merged by comparing the first pair left of each, by distance, then spot, then prediction, and taking the one that goes before, until one run is
+ * used up. Each such comparison counts 1; what is left of the other run counts nothing, nor does a run without neighbour. A round of n pairs takes at
+ * most n x b comparisons, b being the least whole number with 2^b at least n, and n is at most the number of pairs that the candidate lists hold,
+ * since a round with more is refused with 13. So the room that is lent is a ceiling for every exposure:
+ *    room for 2,048 pairs, as the program refine has          b 11    at most         22,528 comparisons in a round
+ *    room for 65,536 pairs                                    b 16    at most      1,048,576
+ *    room for 268,435,456 pairs, as many as there can be      b 28    at most  7,516,192,768
+ * The figure is 0 where the call is refused, where no round ran and where no pair was found.
  *
  * Refused with 5 to 11, 14 or 17, numbers, floats, distances, indices and result are as they came. Refused with 12 or 13, result is as it came and
  * the other four are zero from first place to last. Accepted, result starts with the matches and is unchanged after them, and the other four are
@@ -102,7 +115,8 @@ size_t raqembu_read_record(
  *
  * Accepted, the matches stand in work after its marks, which are zero, point then prediction's place; the used places of distances and indices
  * are zero. Refused with 13, work is as it came and the used places of the other two are zero; with 11, all three are as they came. counts takes
- * the answer, 1 place for the number of matches: refused, it is zero. */
+ * the answer, 2 places for the number of matches and that of comparisons, which are those of one round of raqembu_wcs_refine: refused, they are
+ * zero. */
 size_t raqembu_greedy_unique_matches(
     const double *points, size_t points_len, size_t max_points,
     const double *predicted, size_t predicted_len, double radius_sq,

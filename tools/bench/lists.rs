@@ -2,8 +2,10 @@
 use std::hint::black_box;
 use std::time::Instant;
 
-use reference::solver::matching::{greedy_unique_matches, MatchScratch};
-use reference::stats::median_mad_sigma;
+use reference::comparisons;
+use reference::solver::matching as counted;
+use uncounted::solver::matching::{greedy_unique_matches, MatchScratch};
+use uncounted::stats::median_mad_sigma;
 
 extern "C" {
     fn raqembu_median_mad_sigma(vals: *mut f64, n: usize, out: *mut f64, m: usize);
@@ -34,18 +36,25 @@ impl Lent {
     }
 }
 
-/// How many matches; none is refused, since the lists are long enough.
-fn matches_here(points: &[f64], predicted: &[f64], radius_sq: f64, lent: &mut Lent) -> usize {
-    let mut count = [0];
+/// How many matches, and how many comparisons for them; none is refused, since the lists are long enough.
+fn matches_here(points: &[f64], predicted: &[f64], radius_sq: f64, lent: &mut Lent) -> [usize; 2] {
+    let mut counts = [0; 2];
     let refusal = unsafe {
         raqembu_greedy_unique_matches(
             points.as_ptr(), points.len(), usize::MAX, predicted.as_ptr(), predicted.len(), radius_sq,
             lent.distances.as_mut_ptr(), lent.distances.len(), lent.indices.as_mut_ptr(), lent.indices.len(),
-            lent.work.as_mut_ptr(), lent.work.len(), count.as_mut_ptr(), count.len(),
+            lent.work.as_mut_ptr(), lent.work.len(), counts.as_mut_ptr(), counts.len(),
         )
     };
     assert_eq!(refusal, 0);
-    count[0]
+    counts
+}
+
+/// The reference's matches, and the comparisons that are counted beside it.
+fn matches_there(points: &[(f64, f64)], predicted: &[(usize, f64, f64)], radius_sq: f64) -> (Vec<(usize, usize)>, usize) {
+    comparisons::begin();
+    let matches = counted::greedy_unique_matches(points, usize::MAX, predicted, radius_sq, &mut counted::MatchScratch::default()).to_vec();
+    (matches, comparisons::end()[0] as usize)
 }
 
 /// xorshift64, from a fixed seed.
@@ -107,12 +116,12 @@ fn matcher(random: &mut Random, spots: usize, predictions: usize, half: f64, rad
     let named: Vec<(usize, f64, f64)> = predicted.chunks(2).enumerate().map(|(i, p)| (i, p[0], p[1])).collect();
     let mut lent = Lent::new(1 << 20, spots, predictions);
     let mut scratch = MatchScratch::default();
-    let k = matches_here(&points, &predicted, radius * radius, &mut lent);
-    let there = greedy_unique_matches(&tuples, usize::MAX, &named, radius * radius, &mut scratch).to_vec();
+    let [k, compared] = matches_here(&points, &predicted, radius * radius, &mut lent);
+    let there = matches_there(&tuples, &named, radius * radius);
     let from = spots + predictions;
     let here: Vec<(usize, usize)> = (0..k).map(|i| (lent.work[from + 2 * i], lent.work[from + 2 * i + 1])).collect();
     let name = format!("matcher, {spots} spots with {predictions} predictions, {k} matches");
-    println!("{name}: {}", if here == there { "the same" } else { "DIFFERENT" });
+    println!("{name}: {}, {compared} comparisons", if (here, compared) == there { "the same" } else { "DIFFERENT" });
     let times = both(
         runs,
         || { black_box(matches_here(&points, &predicted, radius * radius, &mut lent)); },

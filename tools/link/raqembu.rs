@@ -123,6 +123,8 @@ pub struct Answer {
     pub rounds: usize,
     pub passes: usize,
     pub queries: usize,
+    /// how often two candidate pairs were compared to put them in order, in the round that took the most
+    pub comparisons: usize,
     /// theta, RA, Dec, scale
     pub pose: [f64; 4],
     /// by rows
@@ -136,7 +138,7 @@ pub struct Answer {
 impl Lists<'_> {
     /// Refines a pose from spots (x, y, weight of each), starting matches (spot, direction of each) and directions (three components of each).
     pub fn refine(&mut self, spots: &[f64], matches: &[usize], directions: &[f32], setting: &Setting) -> Result<Answer, Refusal> {
-        let mut counts = [0; 4];
+        let mut counts = [0; 5];
         let mut values = [0.0; 18];
         // SAFETY: each pointer and length come from one slice or array that lives through the call. Those written to are borrowed for it alone, so
         // no two lists overlap. The library reads and writes within the lengths, keeps no pointer, and every bit pattern it writes is a value of
@@ -159,8 +161,8 @@ impl Lists<'_> {
             )
         };
         accepted(number)?;
-        let [matches, rounds, passes, queries] = counts;
-        let mut answer = Answer { matches, rounds, passes, queries, pose: [0.0; 4], cd: [0.0; 4], rms: values[8], cov: [0.0; 9] };
+        let [matches, rounds, passes, queries, comparisons] = counts;
+        let mut answer = Answer { matches, rounds, passes, queries, comparisons, pose: [0.0; 4], cd: [0.0; 4], rms: values[8], cov: [0.0; 9] };
         answer.pose.copy_from_slice(&values[0..4]);
         answer.cd.copy_from_slice(&values[4..8]);
         answer.cov.copy_from_slice(&values[9..18]);

@@ -8,7 +8,7 @@
 
 #include "raqembu.h"
 
-_Static_assert(RAQEMBU_VERSION == 3, "written for version 3 of raqembu.h");
+_Static_assert(RAQEMBU_VERSION == 4, "written for version 4 of raqembu.h");
 
 _Static_assert(sizeof(size_t) == 8, "size_t has 64 bits");
 
@@ -31,7 +31,7 @@ static double floats[WORKING];
 static double distances[4096];
 static size_t indices[8192];
 static size_t result[2 * MATCHES];
-static size_t counts[4];
+static size_t counts[5];
 static double values[18];
 
 /* A line of floats as their bits; every NaN is printed as the same one. */

@@ -1,5 +1,7 @@
 //! Reads an exposure record on standard input, refines its pose with the linked library and prints the answer.
 
+// The comparisons are not printed.
+#[allow(dead_code)]
 mod raqembu;
 
 use std::io::{self, Read, Write};

@@ -23,7 +23,7 @@ static double floats[WORKING];
 static double distances[2 * PAIRS];
 static size_t indices[4 * PAIRS];
 static size_t result[2 * SPOTS];
-static size_t counts[4];
+static size_t counts[5];
 static double values[18];
 
 static size_t spot_count, direction_count, answer, touched;
@@ -91,8 +91,8 @@ static void expose(size_t spots_wanted, size_t side)
 static void tell(void)
 {
     size_t without = touched_by(empty), with = touched_by(refine);
-    printf("%zu spots, %zu matches, %zu directions: %zu bytes; answer %zu, matches %zu, rounds %zu, passes %zu, queries %zu\n", spot_count,
-           spot_count, direction_count, with - without, answer, counts[0], counts[1], counts[2], counts[3]);
+    printf("%zu spots, %zu matches, %zu directions: %zu bytes; answer %zu, matches %zu, rounds %zu, passes %zu, queries %zu, comparisons %zu\n",
+           spot_count, spot_count, direction_count, with - without, answer, counts[0], counts[1], counts[2], counts[3], counts[4]);
 }
 
 int main(void)

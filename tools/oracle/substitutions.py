@@ -106,6 +106,13 @@ SUBSTITUTIONS = [
     (MATCHING, "candidates.push((d2, pt_idx, pred_idx));",
      "candidates.push((d2, pt_idx, pred_idx)); crate::hooks::collected(candidates.len());", 1),
 
+    # The comparisons of the ordering: where all pairs are collected, they are
+    # counted beside the reference's own sorting, which is left as it is. Like its
+    # own counters, this is live with the feature `profile` alone.
+    (MATCHING, "    candidates.sort_by(",
+     "    #[cfg(feature = \"profile\")]\n    crate::comparisons::of_round(candidates);\n"
+     "    candidates.sort_by(", 1),
+
     # All NaNs are one, and it stands after every number.
     (STATS, "select_nth_unstable_by(mid, f64::total_cmp)",
      "select_nth_unstable_by(mid, crate::order::total_cmp)", 2),

@@ -143,22 +143,24 @@ static uint64_t digest;
 static void take(unsigned long long n) { digest = (digest ^ n) * 0x100000001B3u + 1; }
 
 static void run(unsigned n) {
-    size_t counts[4], places = fill(spot_count + match_count + direction_count);
+    size_t counts[5], places = fill(spot_count + match_count + direction_count);
     double values[18];
     size_t refusal = raqembu_wcs_refine(
         spots, RAQEMBU_SPOT_NUMBERS * spot_count, matches, 2 * match_count, directions, 3 * direction_count, rotation, 9,
         scale, mirror, radius, cut, limit, rounds, numbers, places, floats, places,
-        distances, 2 * pairs, indices, 4 * pairs, result, 2 * MOST_SPOTS, counts, 4, values, 18);
+        distances, 2 * pairs, indices, 4 * pairs, result, 2 * MOST_SPOTS, counts, 5, values, 18);
     if (!zero(numbers, 8 * places) || !zero(floats, 8 * places) || !zero(distances, 16 * pairs) || !zero(indices, 32 * pairs))
         printf("call %u: a list is not zero\n", n);
     for (size_t i = 2 * counts[0]; i < 2 * MOST_SPOTS; i++)
         if (result[i] != 0x5A5A5A5A5A5A5A5Au) printf("call %u: place %zu of the result is written\n", n, i);
     if (refusal) {
+        if (counts[4] != 0) printf("call %u: refused, and %zu comparisons\n", n, counts[4]);
         printf("no %zu\n", refusal);
         return;
     }
     printf("ok %zu %zu %zu %zu\n", counts[0], counts[1], counts[2], counts[3]);
     write_floats("pose", values, 4), write_floats("cd", values + 4, 4), write_floats("rms", values + 8, 1), write_floats("cov", values + 9, 9);
+    printf("comparisons %zu\n", counts[4]);
     digest = 0;
     for (size_t i = 0; i < 2 * counts[0]; i++) take(result[i]);
     printf("matches %016llX\n", (unsigned long long)digest);

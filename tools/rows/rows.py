@@ -1,44 +1,40 @@
 # Writes the rows of whole calls (crates/calls/specs) from the model: for each call its arguments, every value on the way, and the small equations
 # that the check computes, joined by the steps of crates/calls/specs/Steps.antt.
 # usage: python3 rows.py [--to FOLDER] [NAME..]      without names, every call; without a folder, into crates/calls/specs
-import os, sys
+import os, re, sys
 from calls import *
 
 PLACE = os.path.join(os.path.dirname(os.path.abspath(__file__)), '..', '..', 'crates', 'calls', 'specs')
 
-HEAD = '''use mathlib.Core.Path.{_≡_, refl}
-use mathlib.Core.Bool.{Bool, true, false, cond}
-use mathlib.Core.List.{List, [], _∷_}
-use Prim.Native.Nat.{ℕ}
-use lib.ListN.{replicate}
-use lib.Ieee.{Float}
-use Rattle·rounding.specs.Arith.{f64, zero64, one64}
-use Rattle·stats.specs.declared.MedianSigma.{MedianSigma}
-use Rattle·project.specs.Camera.{boresight, cameraRows}
-use Rattle·panel.specs.Points.{pointsOf}
-use Rattle·fit.specs.Rows.{Row, rowOf, rows, View, viewOf}
-use Rattle·fit.specs.Normal.{noMatches, withRows, normalMatrix, solvedSums}
-use Rattle·residuals.specs.Residual.{residuals, inFront, madClipMatches}
-use Rattle·solve.specs.Covariance.{covarianceFromNormal}
-use Rattle·project.specs.Project.{cdFromTheta}
-use Rattle·fit.specs.declared.Pose.{Pose}
-use Rattle·fit.specs.declared.Counted.{Counted}
-use Rattle·residuals.specs.declared.Clip.the-variants.{Kept, Unchanged}
-use Rattle·entry.specs.Arguments.{Call}
-use Rattle·entry.specs.Fixed.{Fixed}
-use Rattle·passes.specs.Fit.{fitPasses, moved, sound, still}
-use Rattle·wcs_refine.specs.Clip.{Statistics, none, some, statistics, clipped, taken}
-use Rattle·wcs_refine.specs.Associate.{adaptivePx}
-use Rattle·query.specs.Query.{Cache, empty, full, axis32, leastCos, scanned, drifted, Prediction, predictions, pruned}
-use Rattle·wcs_refine.specs.Round.{State, Next, go, done, refuse, associated, Run, Ending, refused, ended, loop, round}
-use Rattle·wcs_refine.specs.Closing.{fine, cleaned, sumSquares, rootMean}
-use Rattle·wcs_refine.specs.Call.{Outcome, no, ok, left, outcome, queries}
-use Rattle·rounding.specs.Computed.{arithmetic}
-use Rattle·calls·specs.specs.Computed.{checks}
-use Rattle·calls·specs.specs.Steps.{Pass, last-pass, unsound-pass, next-pass, no-pass, passesOf, Measured, Queried, first-search, new-search}
-use Rattle·calls·specs.specs.Steps.{whole-round, unsound-round, roundOf, go-round, done-round, refused-round, ranOf}
-use Rattle·calls·specs.specs.Steps.{Reused, same-search, no-round, Clipping, Refit, last-clip, next-clip}
-use Rattle·calls·specs.specs.Steps.{no-clip, Reported, reportOf, Begun, queried-call, refused-call, accepted-call}
+# What a file of a call may cite, module by module; it imports of these what it does cite.
+CITED = '''
+Rattle.std.specs.Prelude ◌≡◌ refl true false List [] ◌∷◌ replicate Float
+Rattle.rounding.specs.Arith f64 zero64 one64
+Rattle.project.specs.Camera boresight cameraRows
+Rattle.panel.specs.Points pointsOf
+Rattle.fit.specs.Rows Row rowOf rows View viewOf
+Rattle.fit.specs.Normal noMatches withRows normalMatrix solvedSums
+Rattle.residuals.specs.Residual residuals inFront madClipMatches
+Rattle.solve.specs.Covariance covarianceFromNormal
+Rattle.project.specs.Project cdFromTheta
+Rattle.fit.specs.declared.Pose Pose
+Rattle.fit.specs.declared.Counted Counted
+Rattle.residuals.specs.declared.Clip.TheVariants Kept Unchanged
+Rattle.entry.specs.Arguments Call
+Rattle.entry.specs.Fixed Fixed
+Rattle.passes.specs.Fit fitPasses moved sound still
+Rattle.wcs_refine.specs.Clip none some statistics clipped taken
+Rattle.wcs_refine.specs.Associate adaptivePx
+Rattle.query.specs.Query empty full axis32 leastCos scanned drifted Prediction predictions pruned
+Rattle.wcs_refine.specs.Round State go done refuse associated compared refused ended loop round
+Rattle.wcs_refine.specs.Closing sumSquares rootMean
+Rattle.wcs_refine.specs.Call no ok left outcome queries
+Rattle.rounding.specs.Computed arithmetic
+Rattle.calls.specs.Computed checks
+Rattle.calls.specs.Steps Pass last-pass unsound-pass next-pass no-pass passesOf Measured Queried first-search new-search
+Rattle.calls.specs.Steps whole-round unsound-round roundOf go-round done-round refused-round ranOf
+Rattle.calls.specs.Steps Reused same-search no-round Clipping Refit last-clip next-clip
+Rattle.calls.specs.Steps no-clip Reported reportOf Begun queried-call refused-call accepted-call
 '''
 # what a computed equation opens beside the definitions that it is about
 FLOATS = 'arithmetic'
@@ -75,13 +71,27 @@ def rows_of(rs):
 def predictions_of(qs):
     return spread('record { direction = %d; x = %s; y = %s }' % (j, number(x), number(y)) for j, x, y in qs)
 
+# the imports of what a text cites; a projection cites what it projects
+def imports(text):
+    words = set()
+    for line in text.split('\n'):
+        if not line.startswith('--'): words.update(w.split('.')[0] for w in re.split('[ (){};,]+', line))
+    lines = []
+    for module, *names in map(str.split, CITED.strip().split('\n')):
+        names = [n for n in names if n.strip('◌') in words]
+        if names: lines.append('use %s.{%s}\n' % (module, ', '.join(names)))
+    return ''.join(lines)
+
 class Writer:
     def __init__(w, name, c, about, lent):
         w.name, w.c, w.out = name, c, []
         w.result, w.seen = lent, {}
         c.run()
         made = 'Written by tools/rows/rows.py: the values are those of its model, and the check computes every equation. Assumes nothing.'
-        w.out.append('-- %s\n-- %s\n%s' % (about, made, HEAD))
+        w.head = '-- %s\n-- %s\n' % (about, made)
+    def text(w):
+        body = '\n'.join(w.out)
+        return w.head + imports(body) + '\n' + body
     def value(w, kind, name, text):
         # a value is named once
         if (kind, text) in w.seen: return w.seen[kind, text]
@@ -102,7 +112,7 @@ class Writer:
             ('radius', number(c.radius)), ('cut', number(c.cut)), ('limit', c.limit), ('rounds', c.rounds), ('lent', lent)))
         call = record((('spots', 'spots'), ('directions', 'directions'), ('given', given)))
         w.out.append('-- The call, with its lent lists as they come.\nabbrev pub %s-call : Call\n%s\n' % (w.name, after(w.name + '-call', call)))
-        for at, (n, vs) in enumerate((('spots', c.spots), ('directions', c.dirs)), 1):
+        for at, (n, vs) in enumerate((('spots', c.spots), ('directions', c.dirs))):
             lines = [' ∷ '.join(map(number, v)) for v in vs] + ['[]']
             w.out.insert(at, '-- The call\'s %s.\nabbrev %s : List Float\n%s =\n    %s\n' % (n, n, n, '\n    ∷ '.join(lines)))
         w.heading('what its run starts from')
@@ -143,18 +153,18 @@ class Writer:
         for j, f in enumerate(e['fits'], 1):
             at = '%d-%d' % (i, j); p = w.newpose(f['p']); q = w.newpose(f['q'])
             v = w.viewed(at, f['view']); t = w.value('Counted', 'sums-%s' % at, sums(f['sums'][-1]))
-            w.computed('pass-%s' % at, 'Pass (k .cut) %s %s %s %s\n    %s %s %s %s' % (
+            w.computed('pass-%s' % at, 'Pass k.cut %s %s %s %s\n    %s %s %s %s' % (
                 rs, p, v, t, *map(argument, f['sol']), '%s %s %s' % (q, truth(f['sound']), truth(f['still']))),
                 'viewOf withRows noMatches solvedSums moved sound still', ('enough', 'view', 'sums', 'solution', 'pose', 'soundness', 'stillness'))
             names.append((at, f))
         last = w.newpose(e['pose'] if e['fits'] else e['pose0']); n = len(names)
         fine = not e['fits'] or e['fits'][-1]['sound']
-        if not names: proof = 'no-pass 9 (k .cut) %s %s refl' % (rs, last)
+        if not names: proof = 'no-pass 9 k.cut %s %s refl' % (rs, last)
         else:
             at, f = names[-1]
             proof = '%s %d pass-%s' % ('unsound-pass' if not f['sound'] else 'last-pass', 10 - n, at)
             for j in range(n - 1, 0, -1): proof = 'next-pass %d pass-%s\n    (%s)' % (10 - j, names[j - 1][0], proof)
-        w.joined('passes-%d' % i, 'fitPasses 10 (k .cut) %s %s ≡ passesOf %s %d %s' % (rs, w.newpose(e['pose0']), last, n, truth(fine)), proof)
+        w.joined('passes-%d' % i, 'fitPasses 10 k.cut %s %s ≡ passesOf %s %d %s' % (rs, w.newpose(e['pose0']), last, n, truth(fine)), proof)
         return last, n, fine
 
     def loop(w):
@@ -163,7 +173,7 @@ class Writer:
             w.heading('round %d' % i)
             rs = w.looked(i, e['matches0']); p, n, fine = w.passes(i, e, rs); s = states[-1]
             if not fine:
-                w.joined('round-%d' % i, 'round k spots directions %s ≡ roundOf (refuse 12) [] %d' % (s, n),
+                w.joined('round-%d' % i, 'round k spots directions %s ≡ roundOf (refuse 12) [] %d 0' % (s, n),
                     'unsound-round k spots directions %s looked-%d passes-%d' % (s, i, i))
                 ends.append('refused'); break
             v = w.viewed(i, e['view']); vs = w.value('List Float', 'residuals-%d' % i, spread(map(number, e['residuals'])))
@@ -174,7 +184,8 @@ class Writer:
             if e['need']: b = w.value('List Float', 'centre-%d' % i, vector(e['boresight']))
             m = w.value('List (List Float)', 'camera-%d' % i, matrix(e['rows']))
             near = e['cache'][2]; qs = w.value('List Prediction', 'predictions-%d' % i, predictions_of(e['qs']))
-            cache = 'full %s (%s .theta) (%s)' % (b, p, whole(near)) if e['need'] else 'full %s %s %s' % w.cache
+            cache = 'full %s %s.theta (%s)' % (b, p, whole(near)) if e['need'] else 'full %s %s %s' % w.cache
+            y = e.get('compared', 0) # a round that is refused compares nothing
             if 'new' not in e: x = 'refuse 13'; ends.append('refused')
             else:
                 goes = len(e['new']) >= 4 and sorted(e['new']) != sorted(e['clipped'])
@@ -182,21 +193,22 @@ class Writer:
                 x = '%s %s' % ('go' if goes else 'done', st); ends.append('go' if goes else 'done'); states.append(st)
             if e['need']:
                 listed = '((%s) ∷ [])' % whole(e['listed'])
-                w.computed('queried-%d' % i, 'Queried k spots directions %s (%s) %s\n    %s (%s) %s\n    (%s) %s (%s) %s (%s)' % (
-                    p, kept, r, b, vector(e['axis']), argument(e['least']), whole(e['listed']), m, whole(near), qs, x),
-                    'boresight axis32 leastCos scanned cameraRows pruned predictions pointsOf associated',
-                    ('centre', 'narrow', 'least', 'scan', 'camera', 'cached', 'places', 'matcher'))
+                w.computed('queried-%d' % i, 'Queried k spots directions %s (%s) %s\n    %s (%s) %s\n    (%s) %s (%s) %s (%s) %d' % (
+                    p, kept, r, b, vector(e['axis']), argument(e['least']), whole(e['listed']), m, whole(near), qs, x, y),
+                    'boresight axis32 leastCos scanned cameraRows pruned predictions pointsOf associated compared',
+                    ('centre', 'narrow', 'least', 'scan', 'camera', 'cached', 'places', 'matcher', 'counted'))
                 if i == 1: search = 'first-search queried-1'
                 else:
                     w.computed('drifted-%d' % i, 'drifted k %s %s %s ≡ true' % (p, *w.cache[:2]), 'drifted')
                     search = 'new-search queried-%d %s %s %s drifted-%d' % (i, *w.cache, i)
-                w.cache = (b, '(%s .theta)' % p, '(%s)' % whole(near))
+                w.cache = (b, '%s.theta' % p, '(%s)' % whole(near))
             else:
                 listed = '[]'
-                w.computed('reused-%d' % i, 'Reused k spots directions %s (%s) %s\n    %s %s %s\n    %s %s (%s)' % (p, kept, r, *w.cache, m, qs, x),
-                    'drifted cameraRows predictions pointsOf associated', ('near', 'camera', 'places', 'matcher'))
+                w.computed('reused-%d' % i, 'Reused k spots directions %s (%s) %s\n    %s %s %s\n    %s %s (%s) %d' % (
+                    p, kept, r, *w.cache, m, qs, x, y),
+                    'drifted cameraRows predictions pointsOf associated compared', ('near', 'camera', 'places', 'matcher', 'counted'))
                 search = 'same-search reused-%d' % i
-            w.joined('round-%d' % i, 'round k spots directions %s ≡ roundOf (%s) %s %d' % (s, x, listed, n),
+            w.joined('round-%d' % i, 'round k spots directions %s ≡ roundOf (%s) %s %d %d' % (s, x, listed, n, y),
                 'whole-round k spots directions %s looked-%d passes-%d measured-%d\n    (%s)' % (s, i, i, i, search))
             w.last = states[-1]
             if ends[-1] != 'go': break
@@ -207,7 +219,8 @@ class Writer:
         passes = sum(len(e['fits']) for e in c.log); qs = w.listed = several('(' + whole(q) + ')' for q in c.queries)
         end = '(refused %d)' % c.answer['refusal'] if c.answer['refusal'] else '(ended %s)' % w.last
         if c.queries: qs = '(%s)' % qs
-        w.joined('run', 'loop k spots directions %d %s ≡ ranOf %s %d %d %s' % (c.rounds, w.state, end, count, passes, qs), proof)
+        most = max((e.get('compared', 0) for e in c.log), default=0)
+        w.joined('run', 'loop k spots directions %d %s ≡ ranOf %s %d %d %s %d' % (c.rounds, w.state, end, count, passes, qs, most), proof)
         return 'run'
 
     def closing(w, run):
@@ -221,7 +234,7 @@ class Writer:
             'viewOf residuals inFront sumSquares normalMatrix cdFromTheta rootMean covarianceFromNormal',
             ('view', 'values', 'squares', 'normal', 'matrix', 'mean', 'spread'))
         result = [n for m in a['matches'] for n in m]; result += w.result[len(result):]
-        counts = '%d %d %d' % (a['rounds'], a['passes'], a['queries'])
+        counts = '%d %d %d %d' % (a['rounds'], a['passes'], a['queries'], a['comparisons'])
         report = record((('pose', pose(a['pose'])), ('cd', matrix(a['cd'])), ('rms', number(a['rms'])),
             ('covariance', matrix(a['cov'])), ('matches', ms)))
         w.outcome = record((('answer', 'ok (%s) %s' % (report, counts)), ('lent', w.left(result))))
@@ -270,13 +283,10 @@ CALLS = (
 
 TOP = '''-- Whole calls, computed by the check from the written meaning: each comes to the answer that the reference gives, after these queries.
 -- Written by tools/rows/rows.py. Assumes nothing.
-use mathlib.Core.Path.{_≡_}
-use mathlib.Core.List.{List, [], _∷_}
-use Prim.Native.Nat.{ℕ}
-use lib.ListN.{replicate}
-use Rattle·rounding.specs.Arith.{f64, zero64, one64}
-use Rattle·entry.specs.Arguments.{Call}
-use Rattle·wcs_refine.specs.Call.{Outcome, no, ok, outcome, queries}
+use Rattle.std.specs.Prelude.{◌≡◌, List, [], ◌∷◌, ℕ, replicate}
+use Rattle.rounding.specs.Arith.{f64, zero64}
+use Rattle.entry.specs.Arguments.{Call}
+use Rattle.wcs_refine.specs.Call.{Outcome, no, ok, outcome, queries}
 '''
 
 ROW = '''
@@ -288,8 +298,8 @@ pub record Row : Type 0 where
 
 -- What a row says of the written meaning of its call (`outcome` and `queries` in Call.antt of wcs_refine).
 pub record Holds (r : Row) : Type 0 where
-  pub answers : outcome (r .call) ≡ r .answered
-  pub lists : queries (r .call) ≡ r .listed
+  pub answers : outcome r.call ≡ r.answered
+  pub lists : queries r.call ≡ r.listed
 
 -- Every row of a list holds.
 abbrev pub All : List Row → Type 0
@@ -302,10 +312,10 @@ def main(place, names):
     for name, module, make, about, lent in CALLS:
         if names and name not in names: continue
         w = Writer(name, make(), about, lent); w.call()
-        with open(os.path.join(place, module + '.antt'), 'w') as f: f.write('\n'.join(w.out))
+        with open(os.path.join(place, module + '.antt'), 'w') as f: f.write(w.text())
         row = record((('call', name + '-call'), ('answered', w.outcome), ('listed', w.listed)))
         done.append((name, module, about, row))
-    top = TOP + ''.join('use Rattle·calls·specs.specs.%s.{%s-call, %s-row, %s-listed}\n' % (m, n, n, n) for n, m, a, r in done) + ROW
+    top = TOP + ''.join('use Rattle.calls.specs.%s.{%s-call, %s-row, %s-listed}\n' % (m, n, n, n) for n, m, a, r in done) + ROW
     for n, m, a, r in done: top += '\n-- %s\nabbrev pub %s : Row\n%s = %s\n' % (a, n, n, r)
     top += '\n-- The rows, in this order.\nabbrev pub rows : List Row\nrows = %s\n' % several(n for n, m, a, r in done)
     for n, m, a, r in done: top += '\n%s-holds : Holds %s\n%s-holds = record { answers = %s-row; lists = %s-listed }\n' % (n, n, n, n, n)

@@ -2,6 +2,7 @@
 //! difference and tells what the records reached.
 
 mod coverage;
+mod ordering;
 
 use std::io::{Read, Write};
 use std::process::{exit, Child, Command, Stdio};

@@ -1,11 +1,13 @@
 //! What a set of records reached: answers by number and by kind, and for the
-//! runs their rounds, passes, queries, matches and clips.
+//! runs their rounds, passes, queries, matches, comparisons and clips.
 
 use std::collections::BTreeMap;
 use std::fmt::{self, Display};
 
 use reference::call::Answer;
 use reference::hooks::Trace;
+
+use crate::ordering;
 
 /// Values up to the first bound, up to the second, and so on, then the rest.
 struct Histogram {
@@ -46,6 +48,7 @@ pub struct Coverage {
     passes: Histogram,
     queries: Histogram,
     matches: Histogram,
+    comparisons: Histogram,
     steps: BTreeMap<&'static str, u64>,
     /// By kind: the runs whose cut is not the least, and those of them that
     /// the least would answer otherwise.
@@ -66,6 +69,7 @@ impl Coverage {
             passes: Histogram::new(&[0, 1, 2, 3, 5, 10, 20, 50, 100, 300]),
             queries: Histogram::new(&[0, 1, 2, 3, 4, 8, 16]),
             matches: Histogram::new(&[0, 2, 3, 5, 8, 16, 32, 63]),
+            comparisons: Histogram::new(&[0, 1, 3, 10, 30, 100, 300, 1_000, 3_000, 10_000]),
             steps: BTreeMap::new(),
             cuts: Told::new(),
             weights: Told::new(),
@@ -107,6 +111,7 @@ impl Coverage {
         self.passes.add(passes);
         self.queries.add(queries);
         self.matches.add(answer.result.matches.len() as u64);
+        self.comparisons.add(answer.comparisons());
         let clips = match (t.clips_in_rounds > 0, t.clips_in_closing > 0) {
             (false, false) => "ok, no clip",
             (true, false) => "ok, clips in rounds",
@@ -124,6 +129,7 @@ impl Coverage {
                 self.step(name);
             }
         }
+        ordering::told(answer).for_each(|name| self.step(name));
     }
 
     fn refused_12(&mut self, rounds: u64, t: &Trace) {
@@ -173,6 +179,7 @@ impl Display for Coverage {
         writeln!(f, "  passes  {}", self.passes)?;
         writeln!(f, "  queries {}", self.queries)?;
         writeln!(f, "  matches {}", self.matches)?;
+        writeln!(f, "  comparisons {}", self.comparisons)?;
         writeln!(f, "steps")?;
         for (step, count) in &self.steps {
             writeln!(f, "  {step}: {count}")?;

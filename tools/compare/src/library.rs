@@ -1,6 +1,7 @@
 //! Holds the static library's refinement call to the reference Rust: the answer bit for bit, the counts, and every list written to.
 
 mod linked;
+mod ordering;
 mod timing;
 
 use std::collections::BTreeMap;
@@ -37,6 +38,7 @@ fn lent(r: &mut Rng, e: &Exposure, pairs: usize) -> Lists {
         distances: float(distances),
         indices: whole(indices),
         result: whole(result),
+        counts: whole(5),
     }
 }
 
@@ -74,6 +76,13 @@ fn values(a: &Answer) -> Vec<f64> {
     v
 }
 
+/// Matches, rounds, passes, queries and comparisons, as many as the list has places for; nothing is written after them.
+fn counted(was: &[usize], counts: [u64; 5]) -> Vec<usize> {
+    let mut list = was.to_vec();
+    list.iter_mut().zip(counts).for_each(|(place, n)| *place = n as usize);
+    list
+}
+
 /// What differs between the library's answer and lists and those that are due.
 fn difference(was: &Lists, now: &Lists, said: &Said, due: &Result<Answer, u8>) -> Option<String> {
     let zero = |l: &Lists| {
@@ -89,21 +98,31 @@ fn difference(was: &Lists, now: &Lists, said: &Said, due: &Result<Answer, u8>) -
         Err(n) => {
             // Only 12 and 13 are met in the run.
             let lists = now.result == was.result && if matches!(n, 12 | 13) { zero(now) } else { untouched };
-            let nothing = said.counts == [0; 4] && said.values.iter().all(|v| v.to_bits() == 0);
+            let nothing = now.counts == counted(&was.counts, [0; 5]) && said.values.iter().all(|v| v.to_bits() == 0);
             (said.refusal != *n as usize || !lists || !nothing)
                 .then(|| format!("refused {n}, here {}; lists {lists}, values zero {nothing}", said.refusal))
         }
         Ok(a) => {
             let flat: Vec<usize> = a.result.matches.iter().flat_map(|m| [m.0, m.1]).collect();
-            let counts = [flat.len() / 2, a.counts[0] as usize, a.counts[1] as usize, a.counts[2] as usize];
+            let [rounds, passes, queries] = a.counts;
+            let counts = counted(&was.counts, [a.result.matches.len() as u64, rounds, passes, queries, a.comparisons()]);
             let mut result = was.result.clone();
             result[..flat.len()].copy_from_slice(&flat);
             let lists = now.result == result && zero(now);
-            let answer = said.counts == counts && same_floats(&said.values, &values(a));
+            let answer = now.counts == counts && same_floats(&said.values, &values(a));
             (said.refusal != 0 || !lists || !answer)
-                .then(|| format!("accepted, here {}; lists {lists}, answer {answer}: {:?} for {counts:?}", said.refusal, said.counts))
+                .then(|| format!("accepted, here {}; lists {lists}, answer {answer}: {:?} for {counts:?}", said.refusal, now.counts))
         }
     }
+}
+
+/// The same call with another number of places for counts: four, as firmware lends that was built before there was a fifth, or any up to seven.
+fn fewer_counts(r: &mut Rng, e: &Exposure, was: &Lists, due: &Result<Answer, u8>) -> Option<String> {
+    let places = if r.once_in(2) { 4 } else { r.below(8) as usize };
+    let was = Lists { counts: vec![5; places], ..was.clone() };
+    let mut now = was.clone();
+    let said = refine(e, &mut now);
+    difference(&was, &now, &said, due).map(|d| format!("with {places} places for counts: {d}"))
 }
 
 fn due(e: &Exposure, l: &Lists) -> Result<Answer, u8> {
@@ -138,7 +157,9 @@ fn compare(seed: u64, count: u64, kind: Option<&str>, pairs: usize) {
             Err(n) => format!("refused {n:2}"),
         };
         *answers.entry(key).or_default() += 1;
-        if let Some(d) = difference(&was, &now, &said, &due) {
+        due.iter().flat_map(ordering::told).for_each(|name| *answers.entry(name.into()).or_default() += 1);
+        let again = r.once_in(20).then(|| fewer_counts(&mut r, &e, &was, &due)).flatten();
+        if let Some(d) = difference(&was, &now, &said, &due).or(again) {
             different += 1;
             if different < 10 {
                 println!("item {} of seed {seed}, {name}: {d}", item - 1);

@@ -44,18 +44,18 @@ pub struct Lists {
     pub distances: Vec<f64>,
     pub indices: Vec<usize>,
     pub result: Vec<usize>,
+    pub counts: Vec<usize>,
 }
 
-/// Refusal, counts (matches, rounds, passes, queries) and the eighteen values.
+/// Refusal and the eighteen values.
 pub struct Said {
     pub refusal: usize,
-    pub counts: [usize; 4],
     pub values: [f64; 18],
 }
 
 /// One call. The lists are lent, and hold afterwards what the library left.
 pub fn refine(e: &Exposure, l: &mut Lists) -> Said {
-    let mut said = Said { refusal: 0, counts: [7; 4], values: [7.0; 18] };
+    let mut said = Said { refusal: 0, values: [7.0; 18] };
     // Safety: each list is whole and lives through the call, and those written to are ours alone.
     said.refusal = unsafe {
         raqembu_wcs_refine(
@@ -83,8 +83,8 @@ pub fn refine(e: &Exposure, l: &mut Lists) -> Said {
             l.indices.len(),
             l.result.as_mut_ptr(),
             l.result.len(),
-            said.counts.as_mut_ptr(),
-            said.counts.len(),
+            l.counts.as_mut_ptr(),
+            l.counts.len(),
             said.values.as_mut_ptr(),
             said.values.len(),
         )

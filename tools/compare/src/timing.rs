@@ -23,7 +23,14 @@ fn time(bytes: &[u8], pairs: usize, runs: usize) -> Option<Timed> {
     let e = read_any(bytes).ok()?;
     let plain = uncounted::record::read_any(bytes).ok()?;
     let n = 16 * (e.spots.len() / SPOT_NUMBERS + e.matches.len() / 2 + e.directions.len() / 3);
-    let mut l = Lists { numbers: vec![0; n], floats: vec![0.0; n], distances: vec![0.0; 2 * pairs], indices: vec![0; 4 * pairs], result: vec![0; 8192] };
+    let mut l = Lists {
+        numbers: vec![0; n],
+        floats: vec![0.0; n],
+        distances: vec![0.0; 2 * pairs],
+        indices: vec![0; 4 * pairs],
+        result: vec![0; 8192],
+        counts: vec![0; 5],
+    };
     let lent = Lent { wholes: n, floats: n, result: 8192, distances: 2 * pairs, indices: 4 * pairs, cells: None };
     let a = call::refine(&e, &lent, false).ok()?;
     let lent = uncounted::call::Lent { wholes: n, floats: n, result: 8192, distances: 2 * pairs, indices: 4 * pairs, cells: None };

@@ -1,14 +1,15 @@
 //! `oracle bench`: nanoseconds per call of the run on records read, and of
-//! the matcher and the median on generated input.
+//! the matcher and the median on generated input. The reference is without its
+//! counters.
 
 use std::hint::black_box;
 use std::time::Instant;
 
-use reference::answer::PROGRAM;
-use reference::call::{check, Prepared};
-use reference::record::read;
-use reference::solver::matching::{greedy_unique_matches, MatchScratch};
-use reference::stats::median_mad_sigma;
+use uncounted::answer::PROGRAM;
+use uncounted::call::{check, Prepared};
+use uncounted::record::read;
+use uncounted::solver::matching::{greedy_unique_matches, MatchScratch};
+use uncounted::stats::median_mad_sigma;
 
 use crate::rng::Rng;
 

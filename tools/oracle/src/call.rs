@@ -4,6 +4,7 @@
 use std::f32::consts::TAU;
 use std::panic::{catch_unwind, resume_unwind, AssertUnwindSafe};
 
+use crate::comparisons;
 use crate::hooks::{self, Refused};
 use crate::record::{Exposure, SPOT_NUMBERS};
 use crate::scan;
@@ -51,10 +52,19 @@ impl Lent {
     }
 }
 
-/// The reference's result beside its counts of rounds, passes and queries.
+/// The reference's result beside its counts of rounds, passes and queries, and
+/// the comparisons of each round.
 pub struct Answer {
     pub result: WcsRefineResult,
     pub counts: [u64; 3],
+    pub compared: Vec<u64>,
+}
+
+impl Answer {
+    /// The largest number of comparisons of any round, 0 where no round ran.
+    pub fn comparisons(&self) -> u64 {
+        self.compared.iter().copied().max().unwrap_or(0)
+    }
 }
 
 /// Refusals 5 to 11 in their order, with 14 after 8 and 17 after 9.
@@ -181,6 +191,7 @@ impl Prepared {
     /// A run that has been begun, to its end or to what it throws.
     fn ended(&self) -> std::thread::Result<Answer> {
         profiling::reset();
+        comparisons::begin();
         scan::use_cells(self.by_cells);
         let run = || {
             wcs_refine(
@@ -200,7 +211,8 @@ impl Prepared {
         };
         let ended = catch_unwind(AssertUnwindSafe(run));
         hooks::end();
-        ended.map(|result| Answer { result, counts: profiling::counts() })
+        let compared = comparisons::end();
+        ended.map(|result| Answer { result, counts: profiling::counts(), compared })
     }
 }
 

@@ -169,7 +169,7 @@ fn numbers(e: &Exposure) -> Vec<u64> {
 
 /// The counts, the pose and the last match of the reference's own run.
 fn ran(e: &Exposure) -> String {
-    let Answer { result, counts: [rounds, passes, queries] } =
+    let Answer { result, counts: [rounds, passes, queries], .. } =
         Prepared::new(e, &ANY).run_unrefused().unwrap_or_else(|fault| resume_unwind(fault));
     let [ra, dec] = result.crval_rad;
     let pose = [result.theta_rad, ra, dec, result.pixel_scale].map(|x| format!("{:016X}", bits(x)));

@@ -2,6 +2,7 @@
 //! reference's own; README.md lists arguments and results.
 
 use reference::angles::{Angles, Cosine32};
+use reference::comparisons;
 use reference::order;
 use reference::scan::scan;
 use reference::solver::matching::{greedy_unique_matches, MatchScratch};
@@ -170,10 +171,7 @@ fn lists(name: &str, a: &mut Words) -> Option<Out> {
             }))
         }
         "greedy_unique_matches" => {
-            let (limit, radius_sq, points) = (a.number()?, a.f64()?, a.points()?);
-            let predicted = a.list(|a| Some((a.number()?, a.f64()?, a.f64()?)))?;
-            let mut scratch = MatchScratch::default();
-            greedy_unique_matches(&points, limit, &predicted, radius_sq, &mut scratch);
+            let (mut scratch, _) = matched(a)?;
             let matches = scratch.take_matches();
             let out = Out::new().number(matches.len());
             let squared = scratch.matched_d2().iter();
@@ -181,6 +179,7 @@ fn lists(name: &str, a: &mut Words) -> Option<Out> {
                 out.number(m.0).number(m.1).floats([*d2])
             }))
         }
+        "comparisons" => Some(Out::new().numbers(matched(a)?.1)),
         "query" => {
             let (boresight, radius) = (Vector3::from_array(a.three32()?), a.f32()?);
             let listed = scan(boresight, radius, &a.directions()?);
@@ -192,4 +191,15 @@ fn lists(name: &str, a: &mut Words) -> Option<Out> {
         }
         _ => None,
     }
+}
+
+/// The matcher by itself: what it leaves, and the comparisons of its ordering,
+/// as of a run of one round.
+fn matched(a: &mut Words) -> Option<(MatchScratch, Vec<usize>)> {
+    let (limit, radius_sq, points) = (a.number()?, a.f64()?, a.points()?);
+    let predicted = a.list(|a| Some((a.number()?, a.f64()?, a.f64()?)))?;
+    let mut scratch = MatchScratch::default();
+    comparisons::begin();
+    greedy_unique_matches(&points, limit, &predicted, radius_sq, &mut scratch);
+    Some((scratch, comparisons::end().into_iter().map(|n| n as usize).collect()))
 }

@@ -22,6 +22,7 @@ macro_rules! timed {
 pub mod angles;
 pub mod answer;
 pub mod call;
+pub mod comparisons;
 pub mod hooks;
 pub mod order;
 pub mod plain_stats;

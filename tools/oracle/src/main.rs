@@ -27,6 +27,7 @@ oracle full [many] [..]    the call at its full limits, records of any length:
     --wholes N --floats N --result N    lengths of the working and result lists
     --cut-spots N --cut-matches N --cut-directions N
                                         places left off the end of a flat list
+    --comparisons yes                   a line more, the comparisons
     --cells NSIDE                       the reference's own cells, not the scan
 oracle eval                single functions, by bits
 oracle cells [..]          directions that the reference's cells lose
@@ -38,21 +39,23 @@ struct Full {
     lent: Lent,
     /// Places left off the flat lists.
     less: [usize; 3],
+    /// Whether an answer's comparisons are printed.
+    comparisons: bool,
 }
 
 fn main() {
     let words: Vec<String> = std::env::args().skip(1).collect();
     let words: Vec<&str> = words.iter().map(String::as_str).collect();
     match words.as_slice() {
-        [] => one(&|record| of_record(record, false)),
-        ["many"] => many(&|record| of_record(record, false)),
+        [] => one(&|record| lines(&of_record(record, false))),
+        ["many"] => many(&|record| lines(&of_record(record, false))),
         ["full", "many", options @ ..] => {
             let full = Full::new(options);
-            many(&|record| full.answer(record))
+            many(&|record| full.answered(record))
         }
         ["full", options @ ..] => {
             let full = Full::new(options);
-            one(&|record| full.answer(record))
+            one(&|record| full.answered(record))
         }
         ["eval"] => eval::lines_of(io::stdin().lock(), &mut BufWriter::new(io::stdout().lock())),
         ["cells", options @ ..] => cells::main(options),
@@ -80,9 +83,13 @@ impl Full {
             indices: 4 * pairs,
             cells: None,
         };
-        let mut less = [0; 3];
+        let (mut less, mut comparisons) = ([0; 3], false);
         for option in options.chunks(2) {
             let [name, value] = option else { usage() };
+            if *name == "--comparisons" {
+                comparisons = *value == "yes";
+                continue;
+            }
             let value: usize = value.parse().unwrap_or_else(|_| usage());
             match *name {
                 "--distances" => lent.distances = value,
@@ -97,7 +104,17 @@ impl Full {
                 _ => usage(),
             }
         }
-        Full { lent, less }
+        Full { lent, less, comparisons }
+    }
+
+    /// The lines of `refine`, and the comparisons where they are asked for.
+    fn answered(&self, record: &[u8]) -> String {
+        let answer = self.answer(record);
+        let mut text = lines(&answer);
+        if let Some(a) = answer.ok().filter(|_| self.comparisons) {
+            text += &format!("comparisons {}\n", a.comparisons());
+        }
+        text
     }
 
     fn answer(&self, record: &[u8]) -> Result<Answer, u8> {
@@ -109,17 +126,17 @@ impl Full {
     }
 }
 
-fn one(answer: &dyn Fn(&[u8]) -> Result<Answer, u8>) {
+fn one(answered: &dyn Fn(&[u8]) -> String) {
     let mut record = Vec::new();
     io::stdin().lock().read_to_end(&mut record).expect("standard input");
-    print!("{}", lines(&answer(&record)));
+    print!("{}", answered(&record));
 }
 
-fn many(answer: &dyn Fn(&[u8]) -> Result<Answer, u8>) {
+fn many(answered: &dyn Fn(&[u8]) -> String) {
     let mut input = io::stdin().lock();
     let mut output = BufWriter::new(io::stdout().lock());
     while let Some(record) = next_record(&mut input) {
-        writeln!(output, "{}", lines(&answer(&record))).expect("standard output");
+        writeln!(output, "{}", answered(&record)).expect("standard output");
     }
 }
 
