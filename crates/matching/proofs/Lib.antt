@@ -1,4 +1,5 @@
 pub mod Runs
+pub mod Heads
 pub mod Passes
 pub mod Counting
 pub mod Marks
