@@ -1,5 +1,5 @@
-// The worked cases of the specification. The substance is `cases` in specs/Cases.antt and `match-lists` in specs/Lists.antt, which the check computes; a
-// crate has to have a function.
+// The worked cases of the specification. The substance is `cases` in specs/Cases.antt, `match-lists` in specs/Lists.antt and `orderings`, `standing` in
+// specs/Orderings.antt, which the check computes; a crate has to have a function.
 #![tactic(auto)]
 
 ghost use Rattle.std.specs.Prelude.{◌≡◌, length};
