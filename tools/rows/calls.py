@@ -65,7 +65,7 @@ def grazing():
     spots = weighted([placed(AHEAD, v, -0.03125, 0.0) for v in dirs[:4]] + [(3968.0, 0.0)], [1.0] * 5)
     return Call(spots, dirs, [(4, 4)], AHEAD, SCALE, False, nar(0.001), 0.25, 5, 3, 64, 128)
 
-CALLS = {'far-turn': far_turn, 'many-pairs': many_pairs, 'second-query': second_query, 'one-clip': one_clip, 'last-clip': last_clip,
+CALLS = {'far_turn': far_turn, 'many_pairs': many_pairs, 'second_query': second_query, 'one_clip': one_clip, 'last_clip': last_clip,
     'grazing': grazing}
 
 if __name__ == '__main__':

@@ -10,31 +10,31 @@ PLACE = os.path.join(os.path.dirname(os.path.abspath(__file__)), '..', '..', 'cr
 CITED = '''
 Rattle.std.specs.Prelude ◌≡◌ refl true false List [] ◌∷◌ replicate Float
 Rattle.rounding.specs.Arith f64 zero64 one64
-Rattle.project.specs.Camera boresight cameraRows
-Rattle.panel.specs.Points pointsOf
-Rattle.fit.specs.Rows Row rowOf rows View viewOf
-Rattle.fit.specs.Normal noMatches withRows normalMatrix solvedSums
-Rattle.residuals.specs.Residual residuals inFront madClipMatches
-Rattle.solve.specs.Covariance covarianceFromNormal
-Rattle.project.specs.Project cdFromTheta
+Rattle.project.specs.Camera boresight camera_rows
+Rattle.panel.specs.Points points_of
+Rattle.fit.specs.Rows Row row_of rows View view_of
+Rattle.fit.specs.Normal no_matches with_rows normal_matrix solved_sums
+Rattle.residuals.specs.Residual residuals in_front mad_clip_matches
+Rattle.solve.specs.Covariance covariance_from_normal
+Rattle.project.specs.Project cd_from_theta
 Rattle.fit.specs.declared.Pose Pose
 Rattle.fit.specs.declared.Counted Counted
 Rattle.residuals.specs.declared.Clip.TheVariants Kept Unchanged
 Rattle.entry.specs.Arguments Call
 Rattle.entry.specs.Fixed Fixed
-Rattle.passes.specs.Fit fitPasses moved sound still
+Rattle.passes.specs.Fit fit_passes moved sound still
 Rattle.wcs_refine.specs.Clip none some statistics clipped taken
-Rattle.wcs_refine.specs.Associate adaptivePx
-Rattle.query.specs.Query empty full axis32 leastCos scanned drifted Prediction predictions pruned
+Rattle.wcs_refine.specs.Associate adaptive_px
+Rattle.query.specs.Query empty full axis32 least_cos scanned drifted Prediction predictions pruned
 Rattle.wcs_refine.specs.Round State go done refuse associated compared refused ended loop round
-Rattle.wcs_refine.specs.Closing sumSquares rootMean
+Rattle.wcs_refine.specs.Closing sum_squares root_mean
 Rattle.wcs_refine.specs.Call no ok left outcome queries
 Rattle.rounding.specs.Computed arithmetic
 Rattle.calls.specs.Computed checks
-Rattle.calls.specs.Steps Pass last-pass unsound-pass next-pass no-pass passesOf Measured Queried first-search new-search
-Rattle.calls.specs.Steps whole-round unsound-round roundOf go-round done-round refused-round ranOf
-Rattle.calls.specs.Steps Reused same-search no-round Clipping Refit last-clip next-clip
-Rattle.calls.specs.Steps no-clip Reported reportOf Begun queried-call refused-call accepted-call
+Rattle.calls.specs.Steps Pass last_pass unsound_pass next_pass no_pass passes_of Measured Queried first_search new_search
+Rattle.calls.specs.Steps whole_round unsound_round round_of go_round done_round refused_round ran_of
+Rattle.calls.specs.Steps Reused same_search no_round Clipping Refit last_clip next_clip
+Rattle.calls.specs.Steps no_clip Reported report_of Begun queried_call refused_call accepted_call
 '''
 # what a computed equation opens beside the definitions that it is about
 FLOATS = 'arithmetic'
@@ -61,13 +61,13 @@ def record(pairs): return 'record {\n' + ''.join('  ' + after(n, str(t)).replace
 def pose(p): return record(zip(('theta', 'ra', 'dec', 'scale'), map(number, p)))
 def view(w):
     return record((('basis', matrix(w['basis'])),
-        ('cosT', number(w['cosT'])), ('sinT', number(w['sinT'])), ('ps', number(w['ps'])), ('cut', number(w['cut']))))
+        ('cos_t', number(w['cos_t'])), ('sin_t', number(w['sin_t'])), ('ps', number(w['ps'])), ('cut', number(w['cut']))))
 def sums(t):
     a = t['ata']
     four = record((('ata0', vector(a[0])), ('ata1', vector(a[1])), ('ata2', vector(a[2])), ('atb', vector(t['atb']))))
     return record((('sums', four), ('n', t['n'])))
 def rows_of(rs):
-    return spread('rowOf (record { px = %s; py = %s; weight = %s }) (%s)' % (*map(number, s), vector(v)) for s, v in rs)
+    return spread('row_of (record { px = %s; py = %s; weight = %s }) (%s)' % (*map(number, s), vector(v)) for s, v in rs)
 def predictions_of(qs):
     return spread('record { direction = %d; x = %s; y = %s }' % (j, number(x), number(y)) for j, x, y in qs)
 
@@ -111,24 +111,24 @@ class Writer:
         given = record((('matches', flat(c.matches)), ('rotation', matrix(c.rotation)), ('scale', number(c.scale)), ('mirror', truth(c.mirror)),
             ('radius', number(c.radius)), ('cut', number(c.cut)), ('limit', c.limit), ('rounds', c.rounds), ('lent', lent)))
         call = record((('spots', 'spots'), ('directions', 'directions'), ('given', given)))
-        w.out.append('-- The call, with its lent lists as they come.\nabbrev pub %s-call : Call\n%s\n' % (w.name, after(w.name + '-call', call)))
+        w.out.append('-- The call, with its lent lists as they come.\nabbrev pub %s_call : Call\n%s\n' % (w.name, after(w.name + '_call', call)))
         for at, (n, vs) in enumerate((('spots', c.spots), ('directions', c.dirs))):
             lines = [' ∷ '.join(map(number, v)) for v in vs] + ['[]']
             w.out.insert(at, '-- The call\'s %s.\nabbrev %s : List Float\n%s =\n    %s\n' % (n, n, n, '\n    ∷ '.join(lines)))
         w.heading('what its run starts from')
         w.value('Fixed', 'k', record((('scale', number(c.scale)), ('mirror', truth(c.mirror)), ('radius', number(c.radius)),
             ('limit', c.limit), ('count', len(c.dirs)), ('capacity', c.capacity), ('cut', number(c.cut)), ('far', number(c.far)))))
-        p = w.value('Pose', 'pose-0', pose(c.start()))
-        w.state = w.value('State', 'state-0', 'record { pose = %s; matches = %s; cache = empty }' % (p, flat(c.matches)))
-        w.computed('begun', 'Begun %s-call k %s' % (w.name, w.state), 'checks', ('accepted', 'same', 'begins'), floats=False)
+        p = w.value('Pose', 'pose_0', pose(c.start()))
+        w.state = w.value('State', 'state_0', 'record { pose = %s; matches = %s; cache = empty }' % (p, flat(c.matches)))
+        w.computed('begun', 'Begun %s_call k %s' % (w.name, w.state), 'checks', ('accepted', 'same', 'begins'), floats=False)
         w.poses = 1
         loop = w.loop()
         w.heading('the whole call')
-        w.joined('%s-listed' % w.name, 'queries %s-call ≡ %s' % (w.name, w.listed), 'queried-call begun %s' % loop,
+        w.joined('%s_listed' % w.name, 'queries %s_call ≡ %s' % (w.name, w.listed), 'queried_call begun %s' % loop,
             pub='-- What each of its queries lists.\npub ')
         if c.answer['refusal']:
             w.outcome = record((('answer', 'no %d' % c.answer['refusal']), ('lent', w.left(result))))
-            w.joined('%s-row' % w.name, 'outcome %s-call ≡ %s' % (w.name, w.outcome), 'refused-call begun %s' % loop, 'left', CAME)
+            w.joined('%s_row' % w.name, 'outcome %s_call ≡ %s' % (w.name, w.outcome), 'refused_call begun %s' % loop, 'left', CAME)
         else: w.closing(loop)
 
     # lent lists by what they hold, and those that a call leaves
@@ -139,32 +139,32 @@ class Writer:
 
     def newpose(w, p):
         text = pose(p)
-        n = w.value('Pose', 'pose-%d' % w.poses, text)
-        if n == 'pose-%d' % w.poses: w.poses += 1
+        n = w.value('Pose', 'pose_%d' % w.poses, text)
+        if n == 'pose_%d' % w.poses: w.poses += 1
         return n
     def looked(w, i, ms):
-        rs = w.value('List Row', 'rows-%s' % i, rows_of(w.c.rows(ms)))
-        w.computed('looked-%s' % i, 'rows spots directions (%s) ≡ %s' % (flat(ms), rs), 'rows', floats=False); return rs
-    def viewed(w, i, v): return w.value('View', 'view-%s' % i, view(v))
+        rs = w.value('List Row', 'rows_%s' % i, rows_of(w.c.rows(ms)))
+        w.computed('looked_%s' % i, 'rows spots directions (%s) ≡ %s' % (flat(ms), rs), 'rows', floats=False); return rs
+    def viewed(w, i, v): return w.value('View', 'view_%s' % i, view(v))
 
     def passes(w, i, e, rs):
         # the passes of round i; answers the name of the equation on all of them, and their pose
         names = []
         for j, f in enumerate(e['fits'], 1):
-            at = '%d-%d' % (i, j); p = w.newpose(f['p']); q = w.newpose(f['q'])
-            v = w.viewed(at, f['view']); t = w.value('Counted', 'sums-%s' % at, sums(f['sums'][-1]))
-            w.computed('pass-%s' % at, 'Pass k.cut %s %s %s %s\n    %s %s %s %s' % (
+            at = '%d_%d' % (i, j); p = w.newpose(f['p']); q = w.newpose(f['q'])
+            v = w.viewed(at, f['view']); t = w.value('Counted', 'sums_%s' % at, sums(f['sums'][-1]))
+            w.computed('pass_%s' % at, 'Pass k.cut %s %s %s %s\n    %s %s %s %s' % (
                 rs, p, v, t, *map(argument, f['sol']), '%s %s %s' % (q, truth(f['sound']), truth(f['still']))),
-                'viewOf withRows noMatches solvedSums moved sound still', ('enough', 'view', 'sums', 'solution', 'pose', 'soundness', 'stillness'))
+                'view_of with_rows no_matches solved_sums moved sound still', ('enough', 'view', 'sums', 'solution', 'pose', 'soundness', 'stillness'))
             names.append((at, f))
         last = w.newpose(e['pose'] if e['fits'] else e['pose0']); n = len(names)
         fine = not e['fits'] or e['fits'][-1]['sound']
-        if not names: proof = 'no-pass 9 k.cut %s %s refl' % (rs, last)
+        if not names: proof = 'no_pass 9 k.cut %s %s refl' % (rs, last)
         else:
             at, f = names[-1]
-            proof = '%s %d pass-%s' % ('unsound-pass' if not f['sound'] else 'last-pass', 10 - n, at)
-            for j in range(n - 1, 0, -1): proof = 'next-pass %d pass-%s\n    (%s)' % (10 - j, names[j - 1][0], proof)
-        w.joined('passes-%d' % i, 'fitPasses 10 k.cut %s %s ≡ passesOf %s %d %s' % (rs, w.newpose(e['pose0']), last, n, truth(fine)), proof)
+            proof = '%s %d pass_%s' % ('unsound_pass' if not f['sound'] else 'last_pass', 10 - n, at)
+            for j in range(n - 1, 0, -1): proof = 'next_pass %d pass_%s\n    (%s)' % (10 - j, names[j - 1][0], proof)
+        w.joined('passes_%d' % i, 'fit_passes 10 k.cut %s %s ≡ passes_of %s %d %s' % (rs, w.newpose(e['pose0']), last, n, truth(fine)), proof)
         return last, n, fine
 
     def loop(w):
@@ -173,74 +173,74 @@ class Writer:
             w.heading('round %d' % i)
             rs = w.looked(i, e['matches0']); p, n, fine = w.passes(i, e, rs); s = states[-1]
             if not fine:
-                w.joined('round-%d' % i, 'round k spots directions %s ≡ roundOf (refuse 12) [] %d 0' % (s, n),
-                    'unsound-round k spots directions %s looked-%d passes-%d' % (s, i, i))
+                w.joined('round_%d' % i, 'round k spots directions %s ≡ round_of (refuse 12) [] %d 0' % (s, n),
+                    'unsound_round k spots directions %s looked_%d passes_%d' % (s, i, i))
                 ends.append('refused'); break
-            v = w.viewed(i, e['view']); vs = w.value('List Float', 'residuals-%d' % i, spread(map(number, e['residuals'])))
+            v = w.viewed(i, e['view']); vs = w.value('List Float', 'residuals_%d' % i, spread(map(number, e['residuals'])))
             st = 'none' if e['stats'] is None else '(some (record { median = %s; sigma = %s }))' % tuple(map(number, e['stats']))
             ms, kept, r = flat(e['matches0']), flat(e['clipped']), argument(e['r'])
-            w.computed('measured-%d' % i, 'Measured k %s %s (%s) %s %s\n    %s\n    (%s) %s' % (rs, p, ms, v, vs, st, kept, r),
-                'viewOf residuals statistics clipped adaptivePx', ('view', 'values', 'summary', 'clip', 'radius'))
-            if e['need']: b = w.value('List Float', 'centre-%d' % i, vector(e['boresight']))
-            m = w.value('List (List Float)', 'camera-%d' % i, matrix(e['rows']))
-            near = e['cache'][2]; qs = w.value('List Prediction', 'predictions-%d' % i, predictions_of(e['qs']))
+            w.computed('measured_%d' % i, 'Measured k %s %s (%s) %s %s\n    %s\n    (%s) %s' % (rs, p, ms, v, vs, st, kept, r),
+                'view_of residuals statistics clipped adaptive_px', ('view', 'values', 'summary', 'clip', 'radius'))
+            if e['need']: b = w.value('List Float', 'centre_%d' % i, vector(e['boresight']))
+            m = w.value('List (List Float)', 'camera_%d' % i, matrix(e['rows']))
+            near = e['cache'][2]; qs = w.value('List Prediction', 'predictions_%d' % i, predictions_of(e['qs']))
             cache = 'full %s %s.theta (%s)' % (b, p, whole(near)) if e['need'] else 'full %s %s %s' % w.cache
             y = e.get('compared', 0) # a round that is refused compares nothing
             if 'new' not in e: x = 'refuse 13'; ends.append('refused')
             else:
                 goes = len(e['new']) >= 4 and sorted(e['new']) != sorted(e['clipped'])
-                st = w.value('State', 'state-%d' % i, record((('pose', p), ('matches', flat(e['new'] if goes else e['clipped'])), ('cache', cache))))
+                st = w.value('State', 'state_%d' % i, record((('pose', p), ('matches', flat(e['new'] if goes else e['clipped'])), ('cache', cache))))
                 x = '%s %s' % ('go' if goes else 'done', st); ends.append('go' if goes else 'done'); states.append(st)
             if e['need']:
                 listed = '((%s) ∷ [])' % whole(e['listed'])
-                w.computed('queried-%d' % i, 'Queried k spots directions %s (%s) %s\n    %s (%s) %s\n    (%s) %s (%s) %s (%s) %d' % (
+                w.computed('queried_%d' % i, 'Queried k spots directions %s (%s) %s\n    %s (%s) %s\n    (%s) %s (%s) %s (%s) %d' % (
                     p, kept, r, b, vector(e['axis']), argument(e['least']), whole(e['listed']), m, whole(near), qs, x, y),
-                    'boresight axis32 leastCos scanned cameraRows pruned predictions pointsOf associated compared',
+                    'boresight axis32 least_cos scanned camera_rows pruned predictions points_of associated compared',
                     ('centre', 'narrow', 'least', 'scan', 'camera', 'cached', 'places', 'matcher', 'counted'))
-                if i == 1: search = 'first-search queried-1'
+                if i == 1: search = 'first_search queried_1'
                 else:
-                    w.computed('drifted-%d' % i, 'drifted k %s %s %s ≡ true' % (p, *w.cache[:2]), 'drifted')
-                    search = 'new-search queried-%d %s %s %s drifted-%d' % (i, *w.cache, i)
+                    w.computed('drifted_%d' % i, 'drifted k %s %s %s ≡ true' % (p, *w.cache[:2]), 'drifted')
+                    search = 'new_search queried_%d %s %s %s drifted_%d' % (i, *w.cache, i)
                 w.cache = (b, '%s.theta' % p, '(%s)' % whole(near))
             else:
                 listed = '[]'
-                w.computed('reused-%d' % i, 'Reused k spots directions %s (%s) %s\n    %s %s %s\n    %s %s (%s) %d' % (
+                w.computed('reused_%d' % i, 'Reused k spots directions %s (%s) %s\n    %s %s %s\n    %s %s (%s) %d' % (
                     p, kept, r, *w.cache, m, qs, x, y),
-                    'drifted cameraRows predictions pointsOf associated compared', ('near', 'camera', 'places', 'matcher', 'counted'))
-                search = 'same-search reused-%d' % i
-            w.joined('round-%d' % i, 'round k spots directions %s ≡ roundOf (%s) %s %d %d' % (s, x, listed, n, y),
-                'whole-round k spots directions %s looked-%d passes-%d measured-%d\n    (%s)' % (s, i, i, i, search))
+                    'drifted camera_rows predictions points_of associated compared', ('near', 'camera', 'places', 'matcher', 'counted'))
+                search = 'same_search reused_%d' % i
+            w.joined('round_%d' % i, 'round k spots directions %s ≡ round_of (%s) %s %d %d' % (s, x, listed, n, y),
+                'whole_round k spots directions %s looked_%d passes_%d measured_%d\n    (%s)' % (s, i, i, i, search))
             w.last = states[-1]
             if ends[-1] != 'go': break
         count = len(ends); proof = ''
         for i in range(count, 0, -1):
-            one = '%s-round k spots directions %d %s round-%d' % (ends[i - 1], c.rounds - i, states[i - 1], i)
-            proof = one + (' (%s)' % proof if proof else ' (no-round k spots directions %s)' % w.last if ends[i - 1] == 'go' else '')
+            one = '%s_round k spots directions %d %s round_%d' % (ends[i - 1], c.rounds - i, states[i - 1], i)
+            proof = one + (' (%s)' % proof if proof else ' (no_round k spots directions %s)' % w.last if ends[i - 1] == 'go' else '')
         passes = sum(len(e['fits']) for e in c.log); qs = w.listed = several('(' + whole(q) + ')' for q in c.queries)
         end = '(refused %d)' % c.answer['refusal'] if c.answer['refusal'] else '(ended %s)' % w.last
         if c.queries: qs = '(%s)' % qs
         most = max((e.get('compared', 0) for e in c.log), default=0)
-        w.joined('run', 'loop k spots directions %d %s ≡ ranOf %s %d %d %s %d' % (c.rounds, w.state, end, count, passes, qs, most), proof)
+        w.joined('run', 'loop k spots directions %d %s ≡ ran_of %s %d %d %s %d' % (c.rounds, w.state, end, count, passes, qs, most), proof)
         return 'run'
 
     def closing(w, run):
         e, a, c = w.c.closing, w.c.answer, w.c
         cleaned = w.clips(e)
         p = w.newpose(e['pose']); ms = flat(e['ms']); rs = w.looked('last', e['ms'])
-        v = w.viewed('last', e['view']); vs = w.value('List Float', 'residuals-last', spread(map(number, e['residuals'])))
+        v = w.viewed('last', e['view']); vs = w.value('List Float', 'residuals_last', spread(map(number, e['residuals'])))
         t = w.value('Counted', 'normal', sums(e['sums'][-1]))
         cd = w.value('List (List Float)', 'matrix', matrix(a['cd'])); cov = w.value('List (List Float)', 'spread', matrix(a['cov']))
         w.computed('reported', 'Reported k %s %s %s %s\n    %s %s %s %s %s' % (p, rs, v, vs, argument(e['sum']), t, cd, argument(a['rms']), cov),
-            'viewOf residuals inFront sumSquares normalMatrix cdFromTheta rootMean covarianceFromNormal',
+            'view_of residuals in_front sum_squares normal_matrix cd_from_theta root_mean covariance_from_normal',
             ('view', 'values', 'squares', 'normal', 'matrix', 'mean', 'spread'))
         result = [n for m in a['matches'] for n in m]; result += w.result[len(result):]
         counts = '%d %d %d %d' % (a['rounds'], a['passes'], a['queries'], a['comparisons'])
         report = record((('pose', pose(a['pose'])), ('cd', matrix(a['cd'])), ('rms', number(a['rms'])),
             ('covariance', matrix(a['cov'])), ('matches', ms)))
         w.outcome = record((('answer', 'ok (%s) %s' % (report, counts)), ('lent', w.left(result))))
-        short = record((('answer', 'ok (reportOf %s %s %s %s (%s)) %s' % (p, cd, argument(a['rms']), cov, ms, counts)), ('lent', w.left(result))))
-        w.joined('%s-row' % w.name, 'outcome %s-call ≡ %s' % (w.name, short),
-            'accepted-call begun %s\n    (%s) looked-last reported' % (run, cleaned), 'left', CAME)
+        short = record((('answer', 'ok (report_of %s %s %s %s (%s)) %s' % (p, cd, argument(a['rms']), cov, ms, counts)), ('lent', w.left(result))))
+        w.joined('%s_row' % w.name, 'outcome %s_call ≡ %s' % (w.name, short),
+            'accepted_call begun %s\n    (%s) looked_last reported' % (run, cleaned), 'left', CAME)
 
     # the clips of the closing; answers the term for all of them
     def clips(w, e):
@@ -248,34 +248,34 @@ class Writer:
         for j, g in enumerate(e['clips'], 1):
             assert g['stats'] is not None
             p, ms = w.newpose(g['p']), [n for m in g['ms'] for n in m]; kept = [n for m in g['kept'] or [] for n in m]
-            rs = w.value('List Row', 'rows-clip-%d' % j, rows_of(w.c.rows(g['ms']))); v = w.viewed('clip-%d' % j, g['view'])
-            vs = w.value('List Float', 'residuals-clip-%d' % j, spread(map(number, g['rs'])))
+            rs = w.value('List Row', 'rows_clip_%d' % j, rows_of(w.c.rows(g['ms']))); v = w.viewed('clip_%d' % j, g['view'])
+            vs = w.value('List Float', 'residuals_clip_%d' % j, spread(map(number, g['rs'])))
             answer, new = ('(Kept %d)' % (len(kept) // 2), kept + ms[len(kept):]) if kept else ('Unchanged', ms)
-            w.computed('clip-%d' % j, 'Clipping k spots directions %s (%s) %s %s %s\n    (record { median = %s; sigma = %s })\n    %s (%s)' % (
+            w.computed('clip_%d' % j, 'Clipping k spots directions %s (%s) %s %s %s\n    (record { median = %s; sigma = %s })\n    %s (%s)' % (
                 p, whole(ms), rs, v, vs, *map(number, g['stats']), answer, whole(new)),
-                'rows viewOf residuals statistics madClipMatches', ('enough', 'looked', 'view', 'values', 'summary', 'clip'))
+                'rows view_of residuals statistics mad_clip_matches', ('enough', 'looked', 'view', 'values', 'summary', 'clip'))
             if kept:
-                rs = w.value('List Row', 'rows-refit-%d' % j, rows_of(w.c.rows(g['kept'])))
-                t = w.value('Counted', 'sums-refit-%d' % j, sums(g['sums'][-1]))
+                rs = w.value('List Row', 'rows_refit_%d' % j, rows_of(w.c.rows(g['kept'])))
+                t = w.value('Counted', 'sums_refit_%d' % j, sums(g['sums'][-1]))
                 q = w.newpose(g['q'])
-                w.joined('kept-%d' % j, 'taken %s (%s)\n    (%s)\n    ≡ %s' % (answer, whole(ms), whole(new), whole(kept)), 'refl', 'taken')
-                w.computed('refit-%d' % j, 'Refit k spots directions %s (%s) %s %s %s\n    %s %s %s %s' % (
+                w.joined('kept_%d' % j, 'taken %s (%s)\n    (%s)\n    ≡ %s' % (answer, whole(ms), whole(new), whole(kept)), 'refl', 'taken')
+                w.computed('refit_%d' % j, 'Refit k spots directions %s (%s) %s %s %s\n    %s %s %s %s' % (
                     p, whole(kept), rs, v, t, *map(argument, g['sol']), q),
-                    'rows viewOf withRows noMatches solvedSums moved sound', ('looked', 'view', 'sums', 'solution', 'pose', 'soundness'))
+                    'rows view_of with_rows no_matches solved_sums moved sound', ('looked', 'view', 'sums', 'solution', 'pose', 'soundness'))
             made.append(kept)
         n = len(made)
-        if made and not made[-1]: n -= 1; proof = 'last-clip %d clip-%d' % (2 - n, n + 1)
-        else: proof = 'no-clip k spots directions %d %s (%s) refl' % (2 - n, w.newpose(e['pose']), flat(e['ms']))
-        for j in range(n, 0, -1): proof = 'next-clip %d clip-%d kept-%d refit-%d\n    (%s)' % (3 - j, j, j, j, proof)
+        if made and not made[-1]: n -= 1; proof = 'last_clip %d clip_%d' % (2 - n, n + 1)
+        else: proof = 'no_clip k spots directions %d %s (%s) refl' % (2 - n, w.newpose(e['pose']), flat(e['ms']))
+        for j in range(n, 0, -1): proof = 'next_clip %d clip_%d kept_%d refit_%d\n    (%s)' % (3 - j, j, j, j, proof)
         return proof
 
 CALLS = (
-    ('far-turn', 'FarTurn', far_turn, 'A fit pass that turns the camera past 1,024: refusal 12.', list(range(31, 39))),
-    ('many-pairs', 'ManyPairs', many_pairs, 'More pairs within the radius than the candidate lists hold: refusal 13.', list(range(31, 43))),
-    ('second-query', 'SecondQuery', second_query,
+    ('far_turn', 'FarTurn', far_turn, 'A fit pass that turns the camera past 1,024: refusal 12.', list(range(31, 39))),
+    ('many_pairs', 'ManyPairs', many_pairs, 'More pairs within the radius than the candidate lists hold: refusal 13.', list(range(31, 43))),
+    ('second_query', 'SecondQuery', second_query,
         'Two rounds: the matches of the first turn the camera past the margin, and the second queries anew.', list(range(31, 43))),
-    ('one-clip', 'OneClip', one_clip, 'A clip: one of six starting matches lies too far off, and five are left.', list(range(31, 45))),
-    ('last-clip', 'LastClip', last_clip, 'Two rounds with one query, used up, and a clip with its fit at the closing.', list(range(31, 47))),
+    ('one_clip', 'OneClip', one_clip, 'A clip: one of six starting matches lies too far off, and five are left.', list(range(31, 45))),
+    ('last_clip', 'LastClip', last_clip, 'Two rounds with one query, used up, and a clip with its fit at the closing.', list(range(31, 47))),
     ('grazing', 'Grazing', grazing,
         'A direction whose denominator is the cut: a query lists it, and it is neither predicted nor cached, though in the second round it would fit.',
         list(range(31, 43))),
@@ -313,13 +313,13 @@ def main(place, names):
         if names and name not in names: continue
         w = Writer(name, make(), about, lent); w.call()
         with open(os.path.join(place, module + '.antt'), 'w') as f: f.write(w.text())
-        row = record((('call', name + '-call'), ('answered', w.outcome), ('listed', w.listed)))
+        row = record((('call', name + '_call'), ('answered', w.outcome), ('listed', w.listed)))
         done.append((name, module, about, row))
-    top = TOP + ''.join('use Rattle.calls.specs.%s.{%s-call, %s-row, %s-listed}\n' % (m, n, n, n) for n, m, a, r in done) + ROW
+    top = TOP + ''.join('use Rattle.calls.specs.%s.{%s_call, %s_row, %s_listed}\n' % (m, n, n, n) for n, m, a, r in done) + ROW
     for n, m, a, r in done: top += '\n-- %s\nabbrev pub %s : Row\n%s = %s\n' % (a, n, n, r)
     top += '\n-- The rows, in this order.\nabbrev pub rows : List Row\nrows = %s\n' % several(n for n, m, a, r in done)
-    for n, m, a, r in done: top += '\n%s-holds : Holds %s\n%s-holds = record { answers = %s-row; lists = %s-listed }\n' % (n, n, n, n, n)
-    top += '\n-- Every row holds.\npub calls : All rows\ncalls = %stt%s\n' % (''.join('(%s-holds, ' % n for n, m, a, r in done), ')' * len(done))
+    for n, m, a, r in done: top += '\n%s_holds : Holds %s\n%s_holds = record { answers = %s_row; lists = %s_listed }\n' % (n, n, n, n, n)
+    top += '\n-- Every row holds.\npub calls : All rows\ncalls = %stt%s\n' % (''.join('(%s_holds, ' % n for n, m, a, r in done), ')' * len(done))
     with open(os.path.join(place, 'Calls.antt'), 'w') as f: f.write(top)
     with open(os.path.join(place, 'Lib.antt'), 'w') as f:
         f.write(''.join('pub mod %s\n' % m for m in ['Computed', 'Instance', 'Queried', 'Steps'] + [m for n, m, a, r in done] + ['Calls']))

@@ -28,9 +28,9 @@ more a b false false hl he h =
     omega arith
 
 -- and a number above 0 against one that is not
-not-zero : (t : Bool) (a : ℕ) → 0 < a → t && eqb a 0 ≡ true → ⊥
-not-zero true a p h = let same = eqb-true a 0 h in omega arith
-not-zero false a p h = holds h
+not_zero : (t : Bool) (a : ℕ) → 0 < a → t && eqb a 0 ≡ true → ⊥
+not_zero true a p h = let same = eqb-true a 0 h in omega arith
+not_zero false a p h = holds h
 
 -- what the cast asks
 pub under : (x : Float) → le end x ≡ false → lt (neg one64) x ≡ true → T (lt x (fin false 1 (pos 64)))
@@ -55,7 +55,7 @@ greatest nan h = absurd (holds h)
 greatest (inf true) h = absurd (holds h)
 greatest (inf false) h = refl
 greatest (fin true m e) h =
-    absurd (not-zero (eqb (2 ^ 64 * down e) (m * up e * 1)) (2 ^ 64 * down e) (omega (arith, down_pos e)) h)
+    absurd (not_zero (eqb (2 ^ 64 * down e) (m * up e * 1)) (2 ^ 64 * down e) (omega (arith, down_pos e)) h)
 greatest (fin false m e) h =
     let most = at_most (2 ^ 64 * down e) (m * up e * 1) _ _ refl refl h in
     capped (m * up e) (down e) (down_pos e) (omega arith)

@@ -3,8 +3,8 @@ use Rattle.std.specs.Prelude.{Float}
 use Rattle.rounding.specs.Arith.{f64}
 
 -- 0.6366197723675814, 2 / π
-abbrev pub twoOverPi : Float
-twoOverPi = f64 0x3FE45F306DC9C883
+abbrev pub two_over_pi : Float
+two_over_pi = f64 0x3FE45F306DC9C883
 
 -- 6755399441055744, 1.5 * 2 ^ 52: a sum with it has no fraction left
 abbrev pub shift : Float
@@ -23,8 +23,8 @@ abbrev pub reach : Float
 reach = f64 0x4090000000000000
 
 -- 1.5707963267948966, π / 2
-abbrev pub halfPi : Float
-halfPi = f64 0x3FF921FB54442D18
+abbrev pub half_pi : Float
+half_pi = f64 0x3FF921FB54442D18
 
 -- 3.141592653589793, π
 abbrev pub pi : Float

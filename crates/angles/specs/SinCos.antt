@@ -3,14 +3,14 @@ use Rattle.std.specs.Prelude.{ℕ, zero, suc, ◌-◌, ◌%◌, cond, List, [], 
 use Rattle.std.specs.Float.{nan, binary64}
 use Rattle.std.specs.Float.Ieee.{neg, le, lt, of_int, to_unsigned}
 use Rattle.rounding.specs.Arith.{◌⊕◌, ◌⊖◌, ◌⊗◌, ◌⊘◌, zero64, one64}
-use Rattle.rounding.specs.Methods.{absF}
+use Rattle.rounding.specs.Methods.{abs_f}
 use Rattle.rounding.specs.Narrow.{narrowed}
 use Rattle.angles.specs.declared.direct.SinCos.{SinCos}
-use Rattle.angles.specs.Constants.{twoOverPi, shift, P1, P2, reach}
+use Rattle.angles.specs.Constants.{two_over_pi, shift, P1, P2, reach}
 
 -- k = (a × 0.6366197723675814 + 6755399441055744) − 6755399441055744: the nearest whole number of quarter turns
-unfoldable pub quarterTurns : Float → Float
-quarterTurns a = a ⊗ twoOverPi ⊕ shift ⊖ shift
+unfoldable pub quarter_turns : Float → Float
+quarter_turns a = a ⊗ two_over_pi ⊕ shift ⊖ shift
 
 -- r = (a − k × P1) − k × P2: what is left of the angle
 unfoldable pub reduced : Float → Float → Float
@@ -40,31 +40,31 @@ unfoldable pub mod4 : Float → ℕ
 mod4 k = cond (lt k zero64) ((4 - to_unsigned 64 (neg k) % 4) % 4) (to_unsigned 64 k % 4)
 
 -- By k mod 4 from 0 to 3, (sin, cos) is (s, c), (c, −s), (−s, −c), (−c, s).
-unfoldable pub byQuarter : ℕ → Float → Float → SinCos
-byQuarter zero s c = record { sin = s; cos = c }
-byQuarter (suc zero) s c = record { sin = c; cos = neg s }
-byQuarter (suc (suc zero)) s c = record { sin = neg s; cos = neg c }
-byQuarter (suc (suc (suc n))) s c = record { sin = neg c; cos = s }
+unfoldable pub by_quarter : ℕ → Float → Float → SinCos
+by_quarter zero s c = record { sin = s; cos = c }
+by_quarter (suc zero) s c = record { sin = c; cos = neg s }
+by_quarter (suc (suc zero)) s c = record { sin = neg s; cos = neg c }
+by_quarter (suc (suc (suc n))) s c = record { sin = neg c; cos = s }
 
 -- "Else k = .. and r = ..": both functions of a value within ±1,024.
-unfoldable pub inReach : Float → SinCos
-unfolding quarterTurns reduced sine cosine mod4 byQuarter
-inReach a = let k = quarterTurns a in let r = reduced a k in byQuarter (mod4 k) (sine r) (cosine r)
+unfoldable pub in_reach : Float → SinCos
+unfolding quarter_turns reduced sine cosine mod4 by_quarter
+in_reach a = let k = quarter_turns a in let r = reduced a k in by_quarter (mod4 k) (sine r) (cosine r)
 
 -- "sin and cos of a value not finite or beyond 1,024: NaN."
-unfoldable pub sinCos : Float → SinCos
-unfolding inReach absF
-sinCos a = cond (le (absF a) reach) (inReach a) (record { sin = nan; cos = nan })
+unfoldable pub sin_cos : Float → SinCos
+unfolding in_reach abs_f
+sin_cos a = cond (le (abs_f a) reach) (in_reach a) (record { sin = nan; cos = nan })
 
 -- The sine, Rust's f64::sin in the oracle,
 unfoldable pub sin : Float → Float
-unfolding sinCos
-sin a = (sinCos a).sin
+unfolding sin_cos
+sin a = (sin_cos a).sin
 
 -- and the cosine, its f64::cos.
 unfoldable pub cos : Float → Float
-unfolding sinCos
-cos a = (sinCos a).cos
+unfolding sin_cos
+cos a = (sin_cos a).cos
 
 -- "f32 cosine: widen, cosine, narrow." Widening is the identity on values.
 unfoldable pub cos32 : Float → Float

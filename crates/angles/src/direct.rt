@@ -3,7 +3,7 @@
 ghost use Rattle.std.specs.Prelude.{◌≡◌};
 ghost use Rattle.std.specs.Float.Ieee.{to_unsigned};
 ghost use Rattle.rounding.specs.Arith.{◌⊖◌, ◌⊗◌, ◌⊘◌, one64};
-ghost use Rattle.angles.specs.SinCos.{quarterTurns, reduced, sine, cosine, mod4, byQuarter, inReach, sinCos, sin, cos, cos32};
+ghost use Rattle.angles.specs.SinCos.{quarter_turns, reduced, sine, cosine, mod4, by_quarter, in_reach, sin_cos, sin, cos, cos32};
 
 use rounding::{abs, narrow, widen};
 
@@ -30,7 +30,7 @@ pub struct SinCos {
 
 // The nearest whole number of quarter turns.
 fn quarter_turns(a: f64) -> f64
-    ensures { result ≡ quarterTurns a }
+    ensures { result ≡ quarter_turns a }
 {
     a * TWO_OVER_PI + SHIFT - SHIFT
 }
@@ -111,7 +111,7 @@ fn quarter(k: f64) -> u64
 
 // The sine s and the cosine c of the rest, turned by q quarters.
 fn by_quarter(q: u64, s: f64, c: f64) -> SinCos
-    ensures { result ≡ byQuarter q s c }
+    ensures { result ≡ by_quarter q s c }
 {
     match q {
         0 => SinCos { sin: s, cos: c },
@@ -123,7 +123,7 @@ fn by_quarter(q: u64, s: f64, c: f64) -> SinCos
 
 // The angle is within 1,024 of 0, so that k is small and the rest has not lost its digits; the contract holds of any a.
 fn in_reach(a: f64) -> SinCos
-    ensures { result ≡ inReach a }
+    ensures { result ≡ in_reach a }
 {
     let k = quarter_turns(a);
     let x = rest(a, k);
@@ -132,7 +132,7 @@ fn in_reach(a: f64) -> SinCos
 
 // Sine and cosine of the angle a, in radians. Both are NaN where a is not finite or beyond 1,024 either way.
 pub fn sin_cos(a: f64) -> SinCos
-    ensures { result ≡ sinCos a }
+    ensures { result ≡ sin_cos a }
 {
     if abs(a) <= REACH {
         in_reach(a)

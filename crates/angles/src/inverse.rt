@@ -1,7 +1,7 @@
 // The inverse functions. The angle is halved three times, by what that does to its tangent, so that the series needs few terms.
 ghost use Rattle.std.specs.Prelude.{◌≡◌};
 ghost use Rattle.rounding.specs.Arith.{◌⊖◌, ◌⊗◌};
-ghost use Rattle.angles.specs.Inverse.{halved, series, atanSmall, atanMagnitude, atan, asin, zeroAngle, atan2};
+ghost use Rattle.angles.specs.Inverse.{halved, series, atan_small, atan_magnitude, atan, asin, zero_angle, atan2};
 
 use rounding::{abs, is_nan, is_negative, sqrt64};
 
@@ -40,14 +40,14 @@ fn series_of(t: f64) -> f64
 
 // The angle of a tangent t from 0 to 1.
 fn small(t: f64) -> f64
-    ensures { result ≡ atanSmall t }
+    ensures { result ≡ atan_small t }
 {
     series_of(half(half(half(t))))
 }
 
 // The angle of a tangent t at or above 0.
 fn magnitude(t: f64) -> f64
-    ensures { result ≡ atanMagnitude t }
+    ensures { result ≡ atan_magnitude t }
 {
     if 1.0 < t {
         HALF_PI - small(1.0 / t)
@@ -78,7 +78,7 @@ pub fn asin(v: f64) -> f64
 // The angle of a direction with y a zero and x not above zero: half a turn where x is below zero or minus zero, with the sign of y. With x plus
 // zero there is no direction, and y comes back with its sign.
 fn zero_angle(y: f64, x: f64) -> f64
-    ensures { result ≡ zeroAngle y x }
+    ensures { result ≡ zero_angle y x }
 {
     if is_negative(x) {
         if is_negative(y) {

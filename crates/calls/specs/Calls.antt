@@ -4,12 +4,12 @@ use Rattle.std.specs.Prelude.{◌≡◌, List, [], ◌∷◌, ℕ, replicate}
 use Rattle.rounding.specs.Arith.{f64, zero64}
 use Rattle.entry.specs.Arguments.{Call}
 use Rattle.wcs_refine.specs.Call.{Outcome, no, ok, outcome, queries}
-use Rattle.calls.specs.FarTurn.{far-turn-call, far-turn-row, far-turn-listed}
-use Rattle.calls.specs.ManyPairs.{many-pairs-call, many-pairs-row, many-pairs-listed}
-use Rattle.calls.specs.SecondQuery.{second-query-call, second-query-row, second-query-listed}
-use Rattle.calls.specs.OneClip.{one-clip-call, one-clip-row, one-clip-listed}
-use Rattle.calls.specs.LastClip.{last-clip-call, last-clip-row, last-clip-listed}
-use Rattle.calls.specs.Grazing.{grazing-call, grazing-row, grazing-listed}
+use Rattle.calls.specs.FarTurn.{far_turn_call, far_turn_row, far_turn_listed}
+use Rattle.calls.specs.ManyPairs.{many_pairs_call, many_pairs_row, many_pairs_listed}
+use Rattle.calls.specs.SecondQuery.{second_query_call, second_query_row, second_query_listed}
+use Rattle.calls.specs.OneClip.{one_clip_call, one_clip_row, one_clip_listed}
+use Rattle.calls.specs.LastClip.{last_clip_call, last_clip_row, last_clip_listed}
+use Rattle.calls.specs.Grazing.{grazing_call, grazing_row, grazing_listed}
 
 -- A call, its answer with the lists that it leaves, and what each of its queries lists.
 pub record Row : Type 0 where
@@ -28,9 +28,9 @@ All [] = Unit
 All (r ∷ rs) = Holds r × All rs
 
 -- A fit pass that turns the camera past 1,024: refusal 12.
-abbrev pub far-turn : Row
-far-turn = record {
-  call = far-turn-call;
+abbrev pub far_turn : Row
+far_turn = record {
+  call = far_turn_call;
   answered = record {
     answer = no 12;
     lent = record {
@@ -45,9 +45,9 @@ far-turn = record {
 }
 
 -- More pairs within the radius than the candidate lists hold: refusal 13.
-abbrev pub many-pairs : Row
-many-pairs = record {
-  call = many-pairs-call;
+abbrev pub many_pairs : Row
+many_pairs = record {
+  call = many_pairs_call;
   answered = record {
     answer = no 13;
     lent = record {
@@ -62,9 +62,9 @@ many-pairs = record {
 }
 
 -- Two rounds: the matches of the first turn the camera past the margin, and the second queries anew.
-abbrev pub second-query : Row
-second-query = record {
-  call = second-query-call;
+abbrev pub second_query : Row
+second_query = record {
+  call = second_query_call;
   answered = record {
     answer = ok (record {
       pose = record {
@@ -97,9 +97,9 @@ second-query = record {
 }
 
 -- A clip: one of six starting matches lies too far off, and five are left.
-abbrev pub one-clip : Row
-one-clip = record {
-  call = one-clip-call;
+abbrev pub one_clip : Row
+one_clip = record {
+  call = one_clip_call;
   answered = record {
     answer = ok (record {
       pose = record {
@@ -132,9 +132,9 @@ one-clip = record {
 }
 
 -- Two rounds with one query, used up, and a clip with its fit at the closing.
-abbrev pub last-clip : Row
-last-clip = record {
-  call = last-clip-call;
+abbrev pub last_clip : Row
+last_clip = record {
+  call = last_clip_call;
   answered = record {
     answer = ok (record {
       pose = record {
@@ -169,7 +169,7 @@ last-clip = record {
 -- A direction whose denominator is the cut: a query lists it, and it is neither predicted nor cached, though in the second round it would fit.
 abbrev pub grazing : Row
 grazing = record {
-  call = grazing-call;
+  call = grazing_call;
   answered = record {
     answer = ok (record {
       pose = record {
@@ -203,26 +203,26 @@ grazing = record {
 
 -- The rows, in this order.
 abbrev pub rows : List Row
-rows = far-turn ∷ many-pairs ∷ second-query ∷ one-clip ∷ last-clip ∷ grazing ∷ []
+rows = far_turn ∷ many_pairs ∷ second_query ∷ one_clip ∷ last_clip ∷ grazing ∷ []
 
-far-turn-holds : Holds far-turn
-far-turn-holds = record { answers = far-turn-row; lists = far-turn-listed }
+far_turn_holds : Holds far_turn
+far_turn_holds = record { answers = far_turn_row; lists = far_turn_listed }
 
-many-pairs-holds : Holds many-pairs
-many-pairs-holds = record { answers = many-pairs-row; lists = many-pairs-listed }
+many_pairs_holds : Holds many_pairs
+many_pairs_holds = record { answers = many_pairs_row; lists = many_pairs_listed }
 
-second-query-holds : Holds second-query
-second-query-holds = record { answers = second-query-row; lists = second-query-listed }
+second_query_holds : Holds second_query
+second_query_holds = record { answers = second_query_row; lists = second_query_listed }
 
-one-clip-holds : Holds one-clip
-one-clip-holds = record { answers = one-clip-row; lists = one-clip-listed }
+one_clip_holds : Holds one_clip
+one_clip_holds = record { answers = one_clip_row; lists = one_clip_listed }
 
-last-clip-holds : Holds last-clip
-last-clip-holds = record { answers = last-clip-row; lists = last-clip-listed }
+last_clip_holds : Holds last_clip
+last_clip_holds = record { answers = last_clip_row; lists = last_clip_listed }
 
-grazing-holds : Holds grazing
-grazing-holds = record { answers = grazing-row; lists = grazing-listed }
+grazing_holds : Holds grazing
+grazing_holds = record { answers = grazing_row; lists = grazing_listed }
 
 -- Every row holds.
 pub calls : All rows
-calls = (far-turn-holds, (many-pairs-holds, (second-query-holds, (one-clip-holds, (last-clip-holds, (grazing-holds, tt))))))
+calls = (far_turn_holds, (many_pairs_holds, (second_query_holds, (one_clip_holds, (last_clip_holds, (grazing_holds, tt))))))

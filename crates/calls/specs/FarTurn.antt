@@ -2,21 +2,21 @@
 -- Written by tools/rows/rows.py: the values are those of its model, and the check computes every equation. Assumes nothing.
 use Rattle.std.specs.Prelude.{◌≡◌, refl, false, List, [], ◌∷◌, replicate, Float}
 use Rattle.rounding.specs.Arith.{f64, zero64, one64}
-use Rattle.fit.specs.Rows.{Row, rowOf, rows, View, viewOf}
-use Rattle.fit.specs.Normal.{noMatches, withRows, solvedSums}
+use Rattle.fit.specs.Rows.{Row, row_of, rows, View, view_of}
+use Rattle.fit.specs.Normal.{no_matches, with_rows, solved_sums}
 use Rattle.fit.specs.declared.Pose.{Pose}
 use Rattle.fit.specs.declared.Counted.{Counted}
 use Rattle.entry.specs.Arguments.{Call}
 use Rattle.entry.specs.Fixed.{Fixed}
-use Rattle.passes.specs.Fit.{fitPasses, moved, sound, still}
+use Rattle.passes.specs.Fit.{fit_passes, moved, sound, still}
 use Rattle.query.specs.Query.{empty}
 use Rattle.wcs_refine.specs.Round.{State, refuse, refused, loop, round}
 use Rattle.wcs_refine.specs.Call.{no, left, outcome, queries}
 use Rattle.rounding.specs.Computed.{arithmetic}
 use Rattle.calls.specs.Computed.{checks}
-use Rattle.calls.specs.Steps.{Pass, unsound-pass, passesOf}
-use Rattle.calls.specs.Steps.{unsound-round, roundOf, refused-round, ranOf}
-use Rattle.calls.specs.Steps.{Begun, queried-call, refused-call}
+use Rattle.calls.specs.Steps.{Pass, unsound_pass, passes_of}
+use Rattle.calls.specs.Steps.{unsound_round, round_of, refused_round, ran_of}
+use Rattle.calls.specs.Steps.{Begun, queried_call, refused_call}
 
 -- The call's spots.
 abbrev spots : List Float
@@ -35,8 +35,8 @@ directions =
     ∷ []
 
 -- The call, with its lent lists as they come.
-abbrev pub far-turn-call : Call
-far-turn-call = record {
+abbrev pub far_turn_call : Call
+far_turn_call = record {
   spots = spots;
   directions = directions;
   given = record {
@@ -76,57 +76,57 @@ k = record {
   far = f64 0x3EB0000000000000;
 }
 
-abbrev pose-0 : Pose
-pose-0 = record {
+abbrev pose_0 : Pose
+pose_0 = record {
   theta = zero64;
   ra = zero64;
   dec = zero64;
   scale = f64 0x3F50000000000000;
 }
 
-abbrev state-0 : State
-state-0 = record { pose = pose-0; matches = 0 ∷ 0 ∷ 1 ∷ 1 ∷ 2 ∷ 2 ∷ []; cache = empty }
+abbrev state_0 : State
+state_0 = record { pose = pose_0; matches = 0 ∷ 0 ∷ 1 ∷ 1 ∷ 2 ∷ 2 ∷ []; cache = empty }
 
-begun : Begun far-turn-call k state-0
+begun : Begun far_turn_call k state_0
 unfolding checks
 begun = record { accepted = refl; same = refl; begins = refl }
 
 -- ---- round 1
 
-abbrev rows-1 : List Row
-rows-1 =
-    rowOf (record { px = zero64; py = zero64; weight = f64 0x3F50000000000000 }) (one64 ∷ f64 0x3F847AE140000000 ∷ zero64 ∷ [])
-    ∷ rowOf (record { px = f64 0x3EB0000000000000; py = zero64; weight = one64 }) (one64 ∷ f64 0xBF80624DE0000000 ∷ f64 0x3F70624DE0000000 ∷ [])
-    ∷ rowOf (record { px = zero64; py = f64 0x3EB0000000000000; weight = f64 0x4090000000000000 }) (one64 ∷ f64 0x3F60624DE0000000 ∷ f64 0x3F86872B00000000 ∷ [])
+abbrev rows_1 : List Row
+rows_1 =
+    row_of (record { px = zero64; py = zero64; weight = f64 0x3F50000000000000 }) (one64 ∷ f64 0x3F847AE140000000 ∷ zero64 ∷ [])
+    ∷ row_of (record { px = f64 0x3EB0000000000000; py = zero64; weight = one64 }) (one64 ∷ f64 0xBF80624DE0000000 ∷ f64 0x3F70624DE0000000 ∷ [])
+    ∷ row_of (record { px = zero64; py = f64 0x3EB0000000000000; weight = f64 0x4090000000000000 }) (one64 ∷ f64 0x3F60624DE0000000 ∷ f64 0x3F86872B00000000 ∷ [])
     ∷ []
 
-looked-1 : rows spots directions (0 ∷ 0 ∷ 1 ∷ 1 ∷ 2 ∷ 2 ∷ []) ≡ rows-1
+looked_1 : rows spots directions (0 ∷ 0 ∷ 1 ∷ 1 ∷ 2 ∷ 2 ∷ []) ≡ rows_1
 unfolding rows
-looked-1 = refl
+looked_1 = refl
 
-abbrev pose-1 : Pose
-pose-1 = record {
+abbrev pose_1 : Pose
+pose_1 = record {
   theta = f64 0xC161643916793000;
   ra = f64 0xBF7A98B97728EE84;
   dec = f64 0x3F868792232CF6AE;
   scale = f64 0x3F50000000000000;
 }
 
-abbrev view-1-1 : View
-view-1-1 = record {
+abbrev view_1_1 : View
+view_1_1 = record {
   basis =
       (f64 0x8000000000000000 ∷ one64 ∷ zero64 ∷ [])
       ∷ (zero64 ∷ f64 0x8000000000000000 ∷ one64 ∷ [])
       ∷ (one64 ∷ zero64 ∷ zero64 ∷ [])
       ∷ [];
-  cosT = one64;
-  sinT = zero64;
+  cos_t = one64;
+  sin_t = zero64;
   ps = f64 0x3F50000000000000;
   cut = f64 0x3D719799812DEA11;
 }
 
-abbrev sums-1-1 : Counted
-sums-1-1 = record {
+abbrev sums_1_1 : Counted
+sums_1_1 = record {
   sums = record {
     ata0 = f64 0x3CD0040000000000 ∷ f64 0xBEB0000000000000 ∷ f64 0x3E10000000000000 ∷ [];
     ata1 = f64 0xBEB0000000000000 ∷ f64 0x4090040100000000 ∷ zero64 ∷ [];
@@ -136,28 +136,28 @@ sums-1-1 = record {
   n = 3;
 }
 
-pass-1-1 : Pass k.cut rows-1 pose-0 view-1-1 sums-1-1
-    (f64 0xC161643916793000) (f64 0xBF7A98D1F68B75BA) (f64 0x3F8687ECD44DBD98) pose-1 false false
-unfolding viewOf withRows noMatches solvedSums moved sound still arithmetic
-pass-1-1 = record { enough = refl; view = refl; sums = refl; solution = refl; pose = refl; soundness = refl; stillness = refl }
+pass_1_1 : Pass k.cut rows_1 pose_0 view_1_1 sums_1_1
+    (f64 0xC161643916793000) (f64 0xBF7A98D1F68B75BA) (f64 0x3F8687ECD44DBD98) pose_1 false false
+unfolding view_of with_rows no_matches solved_sums moved sound still arithmetic
+pass_1_1 = record { enough = refl; view = refl; sums = refl; solution = refl; pose = refl; soundness = refl; stillness = refl }
 
-passes-1 : fitPasses 10 k.cut rows-1 pose-0 ≡ passesOf pose-1 1 false
-passes-1 = unsound-pass 9 pass-1-1
+passes_1 : fit_passes 10 k.cut rows_1 pose_0 ≡ passes_of pose_1 1 false
+passes_1 = unsound_pass 9 pass_1_1
 
-round-1 : round k spots directions state-0 ≡ roundOf (refuse 12) [] 1 0
-round-1 = unsound-round k spots directions state-0 looked-1 passes-1
+round_1 : round k spots directions state_0 ≡ round_of (refuse 12) [] 1 0
+round_1 = unsound_round k spots directions state_0 looked_1 passes_1
 
-run : loop k spots directions 2 state-0 ≡ ranOf (refused 12) 1 1 [] 0
-run = refused-round k spots directions 1 state-0 round-1
+run : loop k spots directions 2 state_0 ≡ ran_of (refused 12) 1 1 [] 0
+run = refused_round k spots directions 1 state_0 round_1
 
 -- ---- the whole call
 
 -- What each of its queries lists.
-pub far-turn-listed : queries far-turn-call ≡ []
-far-turn-listed = queried-call begun run
+pub far_turn_listed : queries far_turn_call ≡ []
+far_turn_listed = queried_call begun run
 
 -- What it comes to.
-pub far-turn-row : outcome far-turn-call ≡ record {
+pub far_turn_row : outcome far_turn_call ≡ record {
   answer = no 12;
   lent = record {
     numbers = replicate 144 0;
@@ -168,4 +168,4 @@ pub far-turn-row : outcome far-turn-call ≡ record {
   };
 }
 unfolding left
-far-turn-row = refused-call begun run
+far_turn_row = refused_call begun run

@@ -6,19 +6,19 @@ use Rattle.std.proofs.Common.{ap, subst, true≢false, inl, inr, arith}
 use Rattle.std.specs.Float.Ieee.{neg, lt}
 use Rattle.rounding.specs.Arith.{f64, zero64, one64}
 use Rattle.solve.specs.Covariance.{unconstrained}
-use Rattle.panel.specs.Spots.{spotAt}
-use Rattle.fit.specs.Rows.{directionAt}
+use Rattle.panel.specs.Spots.{spot_at}
+use Rattle.fit.specs.Rows.{direction_at}
 use Rattle.solve.specs.Vector.{at}
 use Rattle.panel.specs.declared.Spot.{Spot}
 use Rattle.entry.specs.Arguments.{Call, Given}
-use Rattle.entry.specs.Check.{leastCut, leastWeight, mostWeight, between, every}
+use Rattle.entry.specs.Check.{least_cut, least_weight, most_weight, between, every}
 use Rattle.entry.specs.Fixed.{distance}
 use Rattle.wcs_refine.specs.Associate.{links}
 use Rattle.wcs_refine.specs.Call.{Outcome, ok, outcome, queries}
 use Rattle.wcs_refine.specs.Unseen.{Alike, OnlyUnseen, SpotUnchanged, DirectionUnchanged, DirectionUnseen, SpotUnseen, Listed}
 use Rattle.rounding.specs.Computed.{arithmetic}
 use Rattle.calls.specs.Computed.{everything}
-use Rattle.wcs_refine.proofs.TwoCalls.{unseen-changes-nothing}
+use Rattle.wcs_refine.proofs.TwoCalls.{unseen_changes_nothing}
 
 -- The camera looks along (1, 0, 0), at 2^-10 radians per pixel and with a radius of 2^-7. Only the first spot is within the matching limit, and
 -- there is no starting match. The working list of whole numbers has n places; with three spots and two directions 80 are enough.
@@ -29,7 +29,7 @@ given n = record {
   scale = f64 0x3F50000000000000;
   mirror = false;
   radius = f64 0x3F80000000000000;
-  cut = leastCut;
+  cut = least_cut;
   limit = 1;
   rounds = 1;
   lent = record {
@@ -56,10 +56,10 @@ with n x y w u v = record {
 -- The second spot is (3, 0) before and (0, 4) after; the third has the least weight before and the greatest after; the second direction is
 -- (-1, 0, 0) before and (0, 1, 0) after.
 abbrev pub before : Call
-before = with 80 (f64 0x4008000000000000) zero64 leastWeight (neg one64) zero64
+before = with 80 (f64 0x4008000000000000) zero64 least_weight (neg one64) zero64
 
 abbrev pub after : Call
-after = with 80 zero64 (f64 0x4010000000000000) mostWeight zero64 one64
+after = with 80 zero64 (f64 0x4010000000000000) most_weight zero64 one64
 
 -- What both come to.
 abbrev pub expected : Outcome
@@ -83,49 +83,49 @@ expected = record {
 -- Demand 3 of these two calls: its premises, what it claims, and the outcome itself.
 pub record Instance : Type 0 where
   -- The second spot, the third and the second direction really differ; the third spot does so in its weight alone.
-  pub spot-differs : SpotUnchanged before after 1 → ⊥
-  pub weight-differs : SpotUnchanged before after 2 → ⊥
-  pub same-x : (spotAt before.spots 2).px ≡ (spotAt after.spots 2).px
-  pub same-y : (spotAt before.spots 2).py ≡ (spotAt after.spots 2).py
-  pub direction-differs : DirectionUnchanged before after 1 → ⊥
+  pub spot_differs : SpotUnchanged before after 1 → ⊥
+  pub weight_differs : SpotUnchanged before after 2 → ⊥
+  pub same_x : (spot_at before.spots 2).px ≡ (spot_at after.spots 2).px
+  pub same_y : (spot_at before.spots 2).py ≡ (spot_at after.spots 2).py
+  pub direction_differs : DirectionUnchanged before after 1 → ⊥
   -- Each call makes one query, which lists the first direction alone.
-  pub queries-before : queries before ≡ (0 ∷ []) ∷ []
-  pub queries-after : queries after ≡ (0 ∷ []) ∷ []
+  pub queries_before : queries before ≡ (0 ∷ []) ∷ []
+  pub queries_after : queries after ≡ (0 ∷ []) ∷ []
   -- The premises of demand 3.
   pub alike : Alike before after
-  pub only-unseen : OnlyUnseen before after
+  pub only_unseen : OnlyUnseen before after
   -- What demand 3 then says of these calls.
   pub same : outcome before ≡ outcome after
   -- The outcome itself, computed: accepted after one round, no fit pass and one query, with the start pose and no match.
   pub computed : outcome before ≡ expected
 
-spot-apart : SpotUnchanged before after 1 → ⊥
-unfolding spotAt arithmetic
-spot-apart e = true≢false (ap (λ (s : Spot). lt zero64 s.px) e)
+spot_apart : SpotUnchanged before after 1 → ⊥
+unfolding spot_at arithmetic
+spot_apart e = true≢false (ap (λ (s : Spot). lt zero64 s.px) e)
 
-weight-apart : SpotUnchanged before after 2 → ⊥
-unfolding spotAt arithmetic
-weight-apart e = true≢false (ap (λ (s : Spot). lt s.weight one64) e)
+weight_apart : SpotUnchanged before after 2 → ⊥
+unfolding spot_at arithmetic
+weight_apart e = true≢false (ap (λ (s : Spot). lt s.weight one64) e)
 
-same-across : (spotAt before.spots 2).px ≡ (spotAt after.spots 2).px
-unfolding spotAt
-same-across = refl
+same_across : (spot_at before.spots 2).px ≡ (spot_at after.spots 2).px
+unfolding spot_at
+same_across = refl
 
-same-upward : (spotAt before.spots 2).py ≡ (spotAt after.spots 2).py
-unfolding spotAt
-same-upward = refl
+same_upward : (spot_at before.spots 2).py ≡ (spot_at after.spots 2).py
+unfolding spot_at
+same_upward = refl
 
-direction-apart : DirectionUnchanged before after 1 → ⊥
-unfolding directionAt arithmetic
-direction-apart e = true≢false (ap (λ (v : List Float). lt (at v 0) zero64) e)
+direction_apart : DirectionUnchanged before after 1 → ⊥
+unfolding direction_at arithmetic
+direction_apart e = true≢false (ap (λ (v : List Float). lt (at v 0) zero64) e)
 
-queried-before : queries before ≡ (0 ∷ []) ∷ []
+queried_before : queries before ≡ (0 ∷ []) ∷ []
 unfolding everything
-queried-before = refl
+queried_before = refl
 
-queried-after : queries after ≡ (0 ∷ []) ∷ []
+queried_after : queries after ≡ (0 ∷ []) ∷ []
 unfolding everything
-queried-after = refl
+queried_after = refl
 
 unlisted : (qs : List (List ℕ)) → qs ≡ (0 ∷ []) ∷ [] → Listed 1 qs → ⊥
 unlisted qs e h = go (subst (Listed 1) e h)
@@ -136,7 +136,7 @@ unlisted qs e h = go (subst (Listed 1) e h)
     go (inr p) = elim p [ ]
 
 only : OnlyUnseen before after
-unfolding spotAt directionAt links distance between every arithmetic
+unfolding spot_at direction_at links distance between every arithmetic
 only = record {
   direction = directions;
   spot = spots;
@@ -146,8 +146,8 @@ only = record {
         DirectionUnseen before j × DirectionUnseen after j
     directions zero h d = absurd (d refl)
     directions (suc zero) h d = (
-      record { unnamed = λ n. n; unlisted = unlisted (queries before) queried-before; lawful = tt },
-      record { unnamed = λ n. n; unlisted = unlisted (queries after) queried-after; lawful = tt },
+      record { unnamed = λ n. n; unlisted = unlisted (queries before) queried_before; lawful = tt },
+      record { unnamed = λ n. n; unlisted = unlisted (queries after) queried_after; lawful = tt },
     )
     directions (suc (suc j)) h d = absurd (omega arith)
 
@@ -163,22 +163,22 @@ only = record {
     )
     spots (suc (suc (suc i))) h d = absurd (omega arith)
 
-computed-before : outcome before ≡ expected
+computed_before : outcome before ≡ expected
 unfolding everything
-computed-before = refl
+computed_before = refl
 
 -- Demand 3 is not empty.
 pub instance : Instance
 instance = record {
-  spot-differs = spot-apart;
-  weight-differs = weight-apart;
-  same-x = same-across;
-  same-y = same-upward;
-  direction-differs = direction-apart;
-  queries-before = queried-before;
-  queries-after = queried-after;
+  spot_differs = spot_apart;
+  weight_differs = weight_apart;
+  same_x = same_across;
+  same_y = same_upward;
+  direction_differs = direction_apart;
+  queries_before = queried_before;
+  queries_after = queried_after;
   alike = record { spots = refl; directions = refl; given = refl };
-  only-unseen = only;
-  same = unseen-changes-nothing before after (record { spots = refl; directions = refl; given = refl }) only;
-  computed = computed-before;
+  only_unseen = only;
+  same = unseen_changes_nothing before after (record { spots = refl; directions = refl; given = refl }) only;
+  computed = computed_before;
 }

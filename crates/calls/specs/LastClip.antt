@@ -2,31 +2,31 @@
 -- Written by tools/rows/rows.py: the values are those of its model, and the check computes every equation. Assumes nothing.
 use Rattle.std.specs.Prelude.{◌≡◌, refl, true, false, List, [], ◌∷◌, replicate, Float}
 use Rattle.rounding.specs.Arith.{f64, zero64, one64}
-use Rattle.project.specs.Camera.{boresight, cameraRows}
-use Rattle.panel.specs.Points.{pointsOf}
-use Rattle.fit.specs.Rows.{Row, rowOf, rows, View, viewOf}
-use Rattle.fit.specs.Normal.{noMatches, withRows, normalMatrix, solvedSums}
-use Rattle.residuals.specs.Residual.{residuals, inFront, madClipMatches}
-use Rattle.solve.specs.Covariance.{covarianceFromNormal}
-use Rattle.project.specs.Project.{cdFromTheta}
+use Rattle.project.specs.Camera.{boresight, camera_rows}
+use Rattle.panel.specs.Points.{points_of}
+use Rattle.fit.specs.Rows.{Row, row_of, rows, View, view_of}
+use Rattle.fit.specs.Normal.{no_matches, with_rows, normal_matrix, solved_sums}
+use Rattle.residuals.specs.Residual.{residuals, in_front, mad_clip_matches}
+use Rattle.solve.specs.Covariance.{covariance_from_normal}
+use Rattle.project.specs.Project.{cd_from_theta}
 use Rattle.fit.specs.declared.Pose.{Pose}
 use Rattle.fit.specs.declared.Counted.{Counted}
 use Rattle.residuals.specs.declared.Clip.TheVariants.{Kept, Unchanged}
 use Rattle.entry.specs.Arguments.{Call}
 use Rattle.entry.specs.Fixed.{Fixed}
-use Rattle.passes.specs.Fit.{fitPasses, moved, sound, still}
+use Rattle.passes.specs.Fit.{fit_passes, moved, sound, still}
 use Rattle.wcs_refine.specs.Clip.{none, some, statistics, clipped, taken}
-use Rattle.wcs_refine.specs.Associate.{adaptivePx}
-use Rattle.query.specs.Query.{empty, full, axis32, leastCos, scanned, drifted, Prediction, predictions, pruned}
+use Rattle.wcs_refine.specs.Associate.{adaptive_px}
+use Rattle.query.specs.Query.{empty, full, axis32, least_cos, scanned, drifted, Prediction, predictions, pruned}
 use Rattle.wcs_refine.specs.Round.{State, go, associated, compared, ended, loop, round}
-use Rattle.wcs_refine.specs.Closing.{sumSquares, rootMean}
+use Rattle.wcs_refine.specs.Closing.{sum_squares, root_mean}
 use Rattle.wcs_refine.specs.Call.{ok, left, outcome, queries}
 use Rattle.rounding.specs.Computed.{arithmetic}
 use Rattle.calls.specs.Computed.{checks}
-use Rattle.calls.specs.Steps.{Pass, last-pass, next-pass, no-pass, passesOf, Measured, Queried, first-search}
-use Rattle.calls.specs.Steps.{whole-round, roundOf, go-round, ranOf}
-use Rattle.calls.specs.Steps.{Reused, same-search, no-round, Clipping, Refit, last-clip, next-clip}
-use Rattle.calls.specs.Steps.{Reported, reportOf, Begun, queried-call, accepted-call}
+use Rattle.calls.specs.Steps.{Pass, last_pass, next_pass, no_pass, passes_of, Measured, Queried, first_search}
+use Rattle.calls.specs.Steps.{whole_round, round_of, go_round, ran_of}
+use Rattle.calls.specs.Steps.{Reused, same_search, no_round, Clipping, Refit, last_clip, next_clip}
+use Rattle.calls.specs.Steps.{Reported, report_of, Begun, queried_call, accepted_call}
 
 -- The call's spots.
 abbrev spots : List Float
@@ -53,8 +53,8 @@ directions =
     ∷ []
 
 -- The call, with its lent lists as they come.
-abbrev pub last-clip-call : Call
-last-clip-call = record {
+abbrev pub last_clip_call : Call
+last_clip_call = record {
   spots = spots;
   directions = directions;
   given = record {
@@ -94,67 +94,67 @@ k = record {
   far = f64 0x4028AEC8E1A89CEC;
 }
 
-abbrev pose-0 : Pose
-pose-0 = record {
+abbrev pose_0 : Pose
+pose_0 = record {
   theta = zero64;
   ra = zero64;
   dec = zero64;
   scale = f64 0x3F50000000000000;
 }
 
-abbrev state-0 : State
-state-0 = record { pose = pose-0; matches = []; cache = empty }
+abbrev state_0 : State
+state_0 = record { pose = pose_0; matches = []; cache = empty }
 
-begun : Begun last-clip-call k state-0
+begun : Begun last_clip_call k state_0
 unfolding checks
 begun = record { accepted = refl; same = refl; begins = refl }
 
 -- ---- round 1
 
-abbrev rows-1 : List Row
-rows-1 = []
+abbrev rows_1 : List Row
+rows_1 = []
 
-looked-1 : rows spots directions ([]) ≡ rows-1
+looked_1 : rows spots directions ([]) ≡ rows_1
 unfolding rows
-looked-1 = refl
+looked_1 = refl
 
-passes-1 : fitPasses 10 k.cut rows-1 pose-0 ≡ passesOf pose-0 0 true
-passes-1 = no-pass 9 k.cut rows-1 pose-0 refl
+passes_1 : fit_passes 10 k.cut rows_1 pose_0 ≡ passes_of pose_0 0 true
+passes_1 = no_pass 9 k.cut rows_1 pose_0 refl
 
-abbrev view-1 : View
-view-1 = record {
+abbrev view_1 : View
+view_1 = record {
   basis =
       (f64 0x8000000000000000 ∷ one64 ∷ zero64 ∷ [])
       ∷ (zero64 ∷ f64 0x8000000000000000 ∷ one64 ∷ [])
       ∷ (one64 ∷ zero64 ∷ zero64 ∷ [])
       ∷ [];
-  cosT = one64;
-  sinT = zero64;
+  cos_t = one64;
+  sin_t = zero64;
   ps = f64 0x3F50000000000000;
   cut = f64 0x3D719799812DEA11;
 }
 
-abbrev residuals-1 : List Float
-residuals-1 = []
+abbrev residuals_1 : List Float
+residuals_1 = []
 
-measured-1 : Measured k rows-1 pose-0 ([]) view-1 residuals-1
+measured_1 : Measured k rows_1 pose_0 ([]) view_1 residuals_1
     none
     ([]) (f64 0x40089374C0000000)
-unfolding viewOf residuals statistics clipped adaptivePx arithmetic
-measured-1 = record { view = refl; values = refl; summary = refl; clip = refl; radius = refl }
+unfolding view_of residuals statistics clipped adaptive_px arithmetic
+measured_1 = record { view = refl; values = refl; summary = refl; clip = refl; radius = refl }
 
-abbrev centre-1 : List Float
-centre-1 = one64 ∷ zero64 ∷ zero64 ∷ []
+abbrev centre_1 : List Float
+centre_1 = one64 ∷ zero64 ∷ zero64 ∷ []
 
-abbrev camera-1 : List (List Float)
-camera-1 =
+abbrev camera_1 : List (List Float)
+camera_1 =
     (f64 0x8000000000000000 ∷ one64 ∷ zero64 ∷ [])
     ∷ (zero64 ∷ f64 0x8000000000000000 ∷ one64 ∷ [])
     ∷ (one64 ∷ zero64 ∷ zero64 ∷ [])
     ∷ []
 
-abbrev predictions-1 : List Prediction
-predictions-1 =
+abbrev predictions_1 : List Prediction
+predictions_1 =
     record { direction = 0; x = f64 0x40247AE140000000; y = zero64 }
     ∷ record { direction = 1; x = f64 0xC020624DE0000000; y = f64 0x4010624DE0000000 }
     ∷ record { direction = 2; x = f64 0x4000624DE0000000; y = f64 0x4026872B00000000 }
@@ -164,50 +164,50 @@ predictions-1 =
     ∷ record { direction = 6; x = zero64; y = f64 0x40089374C0000000 }
     ∷ []
 
-abbrev state-1 : State
-state-1 = record {
-  pose = pose-0;
+abbrev state_1 : State
+state_1 = record {
+  pose = pose_0;
   matches = 2 ∷ 2 ∷ 1 ∷ 1 ∷ 6 ∷ 6 ∷ 0 ∷ 0 ∷ 3 ∷ 3 ∷ 4 ∷ 4 ∷ 5 ∷ 5 ∷ [];
-  cache = full centre-1 pose-0.theta (0 ∷ 1 ∷ 2 ∷ 3 ∷ 4 ∷ 5 ∷ 6 ∷ []);
+  cache = full centre_1 pose_0.theta (0 ∷ 1 ∷ 2 ∷ 3 ∷ 4 ∷ 5 ∷ 6 ∷ []);
 }
 
-queried-1 : Queried k spots directions pose-0 ([]) (f64 0x40089374C0000000)
-    centre-1 (one64 ∷ zero64 ∷ zero64 ∷ []) (f64 0x3FEFFDA020000000)
-    (0 ∷ 1 ∷ 2 ∷ 3 ∷ 4 ∷ 5 ∷ 6 ∷ []) camera-1 (0 ∷ 1 ∷ 2 ∷ 3 ∷ 4 ∷ 5 ∷ 6 ∷ []) predictions-1 (go state-1) 12
-unfolding boresight axis32 leastCos scanned cameraRows pruned predictions pointsOf associated compared arithmetic
-queried-1 = record { centre = refl; narrow = refl; least = refl; scan = refl; camera = refl; cached = refl; places = refl; matcher = refl; counted = refl }
+queried_1 : Queried k spots directions pose_0 ([]) (f64 0x40089374C0000000)
+    centre_1 (one64 ∷ zero64 ∷ zero64 ∷ []) (f64 0x3FEFFDA020000000)
+    (0 ∷ 1 ∷ 2 ∷ 3 ∷ 4 ∷ 5 ∷ 6 ∷ []) camera_1 (0 ∷ 1 ∷ 2 ∷ 3 ∷ 4 ∷ 5 ∷ 6 ∷ []) predictions_1 (go state_1) 12
+unfolding boresight axis32 least_cos scanned camera_rows pruned predictions points_of associated compared arithmetic
+queried_1 = record { centre = refl; narrow = refl; least = refl; scan = refl; camera = refl; cached = refl; places = refl; matcher = refl; counted = refl }
 
-round-1 : round k spots directions state-0 ≡ roundOf (go state-1) ((0 ∷ 1 ∷ 2 ∷ 3 ∷ 4 ∷ 5 ∷ 6 ∷ []) ∷ []) 0 12
-round-1 = whole-round k spots directions state-0 looked-1 passes-1 measured-1
-    (first-search queried-1)
+round_1 : round k spots directions state_0 ≡ round_of (go state_1) ((0 ∷ 1 ∷ 2 ∷ 3 ∷ 4 ∷ 5 ∷ 6 ∷ []) ∷ []) 0 12
+round_1 = whole_round k spots directions state_0 looked_1 passes_1 measured_1
+    (first_search queried_1)
 
 -- ---- round 2
 
-abbrev rows-2 : List Row
-rows-2 =
-    rowOf (record { px = f64 0x4000200000000000; py = f64 0x4026800000000000; weight = one64 }) (one64 ∷ f64 0x3F60624DE0000000 ∷ f64 0x3F86872B00000000 ∷ [])
-    ∷ rowOf (record { px = f64 0xC020500000000000; py = f64 0x4010200000000000; weight = f64 0x4008000000000000 }) (one64 ∷ f64 0xBF80624DE0000000 ∷ f64 0x3F70624DE0000000 ∷ [])
-    ∷ rowOf (record { px = f64 0xBFA0000000000000; py = f64 0x4009200000000000; weight = f64 0x4010000000000000 }) (one64 ∷ zero64 ∷ f64 0x3F689374C0000000 ∷ [])
-    ∷ rowOf (record { px = f64 0x4024B80000000000; py = f64 0xBFB4000000000000; weight = f64 0x4000000000000000 }) (one64 ∷ f64 0x3F847AE140000000 ∷ zero64 ∷ [])
-    ∷ rowOf (record { px = f64 0xC009400000000000; py = f64 0xC024300000000000; weight = f64 0x3FE0000000000000 }) (one64 ∷ f64 0xBF689374C0000000 ∷ f64 0xBF847AE140000000 ∷ [])
-    ∷ rowOf (record { px = f64 0x4022B00000000000; py = f64 0x4020200000000000; weight = one64 }) (one64 ∷ f64 0x3F826E9780000000 ∷ f64 0x3F80624DE0000000 ∷ [])
-    ∷ rowOf (record { px = f64 0xC026980000000000; py = f64 0xBFFF400000000000; weight = f64 0x3FE8000000000000 }) (one64 ∷ f64 0xBF889374C0000000 ∷ f64 0xBF60624DE0000000 ∷ [])
+abbrev rows_2 : List Row
+rows_2 =
+    row_of (record { px = f64 0x4000200000000000; py = f64 0x4026800000000000; weight = one64 }) (one64 ∷ f64 0x3F60624DE0000000 ∷ f64 0x3F86872B00000000 ∷ [])
+    ∷ row_of (record { px = f64 0xC020500000000000; py = f64 0x4010200000000000; weight = f64 0x4008000000000000 }) (one64 ∷ f64 0xBF80624DE0000000 ∷ f64 0x3F70624DE0000000 ∷ [])
+    ∷ row_of (record { px = f64 0xBFA0000000000000; py = f64 0x4009200000000000; weight = f64 0x4010000000000000 }) (one64 ∷ zero64 ∷ f64 0x3F689374C0000000 ∷ [])
+    ∷ row_of (record { px = f64 0x4024B80000000000; py = f64 0xBFB4000000000000; weight = f64 0x4000000000000000 }) (one64 ∷ f64 0x3F847AE140000000 ∷ zero64 ∷ [])
+    ∷ row_of (record { px = f64 0xC009400000000000; py = f64 0xC024300000000000; weight = f64 0x3FE0000000000000 }) (one64 ∷ f64 0xBF689374C0000000 ∷ f64 0xBF847AE140000000 ∷ [])
+    ∷ row_of (record { px = f64 0x4022B00000000000; py = f64 0x4020200000000000; weight = one64 }) (one64 ∷ f64 0x3F826E9780000000 ∷ f64 0x3F80624DE0000000 ∷ [])
+    ∷ row_of (record { px = f64 0xC026980000000000; py = f64 0xBFFF400000000000; weight = f64 0x3FE8000000000000 }) (one64 ∷ f64 0xBF889374C0000000 ∷ f64 0xBF60624DE0000000 ∷ [])
     ∷ []
 
-looked-2 : rows spots directions (2 ∷ 2 ∷ 1 ∷ 1 ∷ 6 ∷ 6 ∷ 0 ∷ 0 ∷ 3 ∷ 3 ∷ 4 ∷ 4 ∷ 5 ∷ 5 ∷ []) ≡ rows-2
+looked_2 : rows spots directions (2 ∷ 2 ∷ 1 ∷ 1 ∷ 6 ∷ 6 ∷ 0 ∷ 0 ∷ 3 ∷ 3 ∷ 4 ∷ 4 ∷ 5 ∷ 5 ∷ []) ≡ rows_2
 unfolding rows
-looked-2 = refl
+looked_2 = refl
 
-abbrev pose-1 : Pose
-pose-1 = record {
+abbrev pose_1 : Pose
+pose_1 = record {
   theta = f64 0xBF55F5C56B8B2F36;
   ra = f64 0xBF164F7B92FD5D44;
   dec = f64 0x3ED800397879DD93;
   scale = f64 0x3F50000000000000;
 }
 
-abbrev sums-2-1 : Counted
-sums-2-1 = record {
+abbrev sums_2_1 : Counted
+sums_2_1 = record {
   sums = record {
     ata0 = f64 0x3F4D5EE740000000 ∷ f64 0xBFA2A68000000000 ∷ f64 0xBF64880000000000 ∷ [];
     ata1 = f64 0xBFA2A68000000000 ∷ f64 0x4028800000000000 ∷ zero64 ∷ [];
@@ -217,34 +217,34 @@ sums-2-1 = record {
   n = 7;
 }
 
-pass-2-1 : Pass k.cut rows-2 pose-0 view-1 sums-2-1
-    (f64 0xBF55F5C56B8B2F36) (f64 0xBF164F7B93E4B90A) (f64 0x3ED8003979F05288) pose-1 true false
-unfolding viewOf withRows noMatches solvedSums moved sound still arithmetic
-pass-2-1 = record { enough = refl; view = refl; sums = refl; solution = refl; pose = refl; soundness = refl; stillness = refl }
+pass_2_1 : Pass k.cut rows_2 pose_0 view_1 sums_2_1
+    (f64 0xBF55F5C56B8B2F36) (f64 0xBF164F7B93E4B90A) (f64 0x3ED8003979F05288) pose_1 true false
+unfolding view_of with_rows no_matches solved_sums moved sound still arithmetic
+pass_2_1 = record { enough = refl; view = refl; sums = refl; solution = refl; pose = refl; soundness = refl; stillness = refl }
 
-abbrev pose-2 : Pose
-pose-2 = record {
+abbrev pose_2 : Pose
+pose_2 = record {
   theta = f64 0xBF55C4C282C7176D;
   ra = f64 0xBF164CE3A72EBE7B;
   dec = f64 0x3ED805B0E7A41155;
   scale = f64 0x3F50000000000000;
 }
 
-abbrev view-2-2 : View
-view-2-2 = record {
+abbrev view_2_2 : View
+view_2_2 = record {
   basis =
       (f64 0x3F164F7B9289AF62 ∷ f64 0x3FEFFFFFFE0E3E16 ∷ zero64 ∷ [])
       ∷ (f64 0xBED800397703F8A1 ∷ f64 0x3E00BBC4BF7A0292 ∷ f64 0x3FEFFFFFFFFDBFF5 ∷ [])
       ∷ (f64 0x3FEFFFFFFE0BFE0A ∷ f64 0xBF164F7B92881DC3 ∷ f64 0x3ED8003978794D8F ∷ [])
       ∷ [];
-  cosT = f64 0x3FEFFFFE1DC1AD9E;
-  sinT = f64 0xBF55F5C4FD3AF353;
+  cos_t = f64 0x3FEFFFFE1DC1AD9E;
+  sin_t = f64 0xBF55F5C4FD3AF353;
   ps = f64 0x3F50000000000000;
   cut = f64 0x3D719799812DEA11;
 }
 
-abbrev sums-2-2 : Counted
-sums-2-2 = record {
+abbrev sums_2_2 : Counted
+sums_2_2 = record {
   sums = record {
     ata0 = f64 0x3F4D5EE740000000 ∷ f64 0xBFA2A6EF9E6CE12E ∷ f64 0xBF64219ABDFC4DA8 ∷ [];
     ata1 = f64 0xBFA2A6EF9E6CE12E ∷ f64 0x4028800000000000 ∷ zero64 ∷ [];
@@ -254,34 +254,34 @@ sums-2-2 = record {
   n = 7;
 }
 
-pass-2-2 : Pass k.cut rows-2 pose-1 view-2-2 sums-2-2
-    (f64 0x3EE88174620BE49F) (f64 0x3E64BF5E74F4D457) (f64 0x3E35DDBCA8CF1088) pose-2 true false
-unfolding viewOf withRows noMatches solvedSums moved sound still arithmetic
-pass-2-2 = record { enough = refl; view = refl; sums = refl; solution = refl; pose = refl; soundness = refl; stillness = refl }
+pass_2_2 : Pass k.cut rows_2 pose_1 view_2_2 sums_2_2
+    (f64 0x3EE88174620BE49F) (f64 0x3E64BF5E74F4D457) (f64 0x3E35DDBCA8CF1088) pose_2 true false
+unfolding view_of with_rows no_matches solved_sums moved sound still arithmetic
+pass_2_2 = record { enough = refl; view = refl; sums = refl; solution = refl; pose = refl; soundness = refl; stillness = refl }
 
-abbrev pose-3 : Pose
-pose-3 = record {
+abbrev pose_3 : Pose
+pose_3 = record {
   theta = f64 0xBF55C52E2DE34FB3;
   ra = f64 0xBF164CE8CEFA49F2;
   dec = f64 0x3ED805AB5D321666;
   scale = f64 0x3F50000000000000;
 }
 
-abbrev view-2-3 : View
-view-2-3 = record {
+abbrev view_2_3 : View
+view_2_3 = record {
   basis =
       (f64 0x3F164CE3A6BB38EB ∷ f64 0x3FEFFFFFFE0EB1C8 ∷ zero64 ∷ [])
       ∷ (f64 0xBED805B0E62E2DD3 ∷ f64 0x3E00BDA208EF89D3 ∷ f64 0x3FEFFFFFFFFDBEEF ∷ [])
       ∷ (f64 0x3FEFFFFFFE0C70B6 ∷ f64 0xBF164CE3A6B9A6C4 ∷ f64 0x3ED805B0E7A380EF ∷ [])
       ∷ [];
-  cosT = f64 0x3FEFFFFE2620E0B1;
-  sinT = f64 0xBF55C4C217530B26;
+  cos_t = f64 0x3FEFFFFE2620E0B1;
+  sin_t = f64 0xBF55C4C217530B26;
   ps = f64 0x3F50000000000000;
   cut = f64 0x3D719799812DEA11;
 }
 
-abbrev sums-2-3 : Counted
-sums-2-3 = record {
+abbrev sums_2_3 : Counted
+sums_2_3 = record {
   sums = record {
     ata0 = f64 0x3F4D5EE740000000 ∷ f64 0xBFA2A6EEA7BD1D2C ∷ f64 0xBF64227F487E979A ∷ [];
     ata1 = f64 0xBFA2A6EEA7BD1D2C ∷ f64 0x4028800000000000 ∷ zero64 ∷ [];
@@ -291,34 +291,34 @@ sums-2-3 = record {
   n = 7;
 }
 
-pass-2-3 : Pass k.cut rows-2 pose-2 view-2-3 sums-2-3
-    (f64 0xBE7AEAC70E117BBB) (f64 0xBDF49F2E2DDAE9B7) (f64 0xBDB629C7EBC4B64F) pose-3 true false
-unfolding viewOf withRows noMatches solvedSums moved sound still arithmetic
-pass-2-3 = record { enough = refl; view = refl; sums = refl; solution = refl; pose = refl; soundness = refl; stillness = refl }
+pass_2_3 : Pass k.cut rows_2 pose_2 view_2_3 sums_2_3
+    (f64 0xBE7AEAC70E117BBB) (f64 0xBDF49F2E2DDAE9B7) (f64 0xBDB629C7EBC4B64F) pose_3 true false
+unfolding view_of with_rows no_matches solved_sums moved sound still arithmetic
+pass_2_3 = record { enough = refl; view = refl; sums = refl; solution = refl; pose = refl; soundness = refl; stillness = refl }
 
-abbrev pose-4 : Pose
-pose-4 = record {
+abbrev pose_4 : Pose
+pose_4 = record {
   theta = f64 0xBF55C52D4161EF48;
   ra = f64 0xBF164CE8C3A92072;
   dec = f64 0x3ED805AB6970CAF9;
   scale = f64 0x3F50000000000000;
 }
 
-abbrev view-2-4 : View
-view-2-4 = record {
+abbrev view_2_4 : View
+view_2_4 = record {
   basis =
       (f64 0x3F164CE8CE86C412 ∷ f64 0x3FEFFFFFFE0EB0E2 ∷ zero64 ∷ [])
       ∷ (f64 0xBED805AB5BBC328D ∷ f64 0x3E00BDA20B336F7A ∷ f64 0x3FEFFFFFFFFDBEF0 ∷ [])
       ∷ (f64 0x3FEFFFFFFE0C6FD1 ∷ f64 0xBF164CE8CE8531EB ∷ f64 0x3ED805AB5D318600 ∷ [])
       ∷ [];
-  cosT = f64 0x3FEFFFFE260E90F0;
-  sinT = f64 0xBF55C52DC26908E6;
+  cos_t = f64 0x3FEFFFFE260E90F0;
+  sin_t = f64 0xBF55C52DC26908E6;
   ps = f64 0x3F50000000000000;
   cut = f64 0x3D719799812DEA11;
 }
 
-abbrev sums-2-4 : Counted
-sums-2-4 = record {
+abbrev sums_2_4 : Counted
+sums_2_4 = record {
   sums = record {
     ata0 = f64 0x3F4D5EE740000000 ∷ f64 0xBFA2A6EEA9DB1530 ∷ f64 0xBF64227D526F437E ∷ [];
     ata1 = f64 0xBFA2A6EEA9DB1530 ∷ f64 0x4028800000000000 ∷ zero64 ∷ [];
@@ -328,34 +328,34 @@ sums-2-4 = record {
   n = 7;
 }
 
-pass-2-4 : Pass k.cut rows-2 pose-3 view-2-4 sums-2-4
-    (f64 0x3E0D902C0D53F460) (f64 0x3D86A2530048E493) (f64 0x3D487D692290E79D) pose-4 true false
-unfolding viewOf withRows noMatches solvedSums moved sound still arithmetic
-pass-2-4 = record { enough = refl; view = refl; sums = refl; solution = refl; pose = refl; soundness = refl; stillness = refl }
+pass_2_4 : Pass k.cut rows_2 pose_3 view_2_4 sums_2_4
+    (f64 0x3E0D902C0D53F460) (f64 0x3D86A2530048E493) (f64 0x3D487D692290E79D) pose_4 true false
+unfolding view_of with_rows no_matches solved_sums moved sound still arithmetic
+pass_2_4 = record { enough = refl; view = refl; sums = refl; solution = refl; pose = refl; soundness = refl; stillness = refl }
 
-abbrev pose-5 : Pose
-pose-5 = record {
+abbrev pose_5 : Pose
+pose_5 = record {
   theta = f64 0xBF55C52D43697241;
   ra = f64 0xBF164CE8C3C1FCA7;
   dec = f64 0x3ED805AB6955E6D6;
   scale = f64 0x3F50000000000000;
 }
 
-abbrev view-2-5 : View
-view-2-5 = record {
+abbrev view_2_5 : View
+view_2_5 = record {
   basis =
       (f64 0x3F164CE8C3359A92 ∷ f64 0x3FEFFFFFFE0EB0E4 ∷ zero64 ∷ [])
       ∷ (f64 0xBED805AB67FAE721 ∷ f64 0x3E00BDA20B3D1934 ∷ f64 0x3FEFFFFFFFFDBEF0 ∷ [])
       ∷ (f64 0x3FEFFFFFFE0C6FD3 ∷ f64 0xBF164CE8C334086B ∷ f64 0x3ED805AB69703A93 ∷ [])
       ∷ [];
-  cosT = f64 0x3FEFFFFE260EB929;
-  sinT = f64 0xBF55C52CD5E7B62A;
+  cos_t = f64 0x3FEFFFFE260EB929;
+  sin_t = f64 0xBF55C52CD5E7B62A;
   ps = f64 0x3F50000000000000;
   cut = f64 0x3D719799812DEA11;
 }
 
-abbrev sums-2-5 : Counted
-sums-2-5 = record {
+abbrev sums_2_5 : Counted
+sums_2_5 = record {
   sums = record {
     ata0 = f64 0x3F4D5EE73FFFFFFE ∷ f64 0xBFA2A6EEA9D66EB2 ∷ f64 0xBF64227D56BE17CA ∷ [];
     ata1 = f64 0xBFA2A6EEA9D66EB2 ∷ f64 0x4028800000000000 ∷ zero64 ∷ [];
@@ -365,33 +365,33 @@ sums-2-5 = record {
   n = 7;
 }
 
-pass-2-5 : Pass k.cut rows-2 pose-4 view-2-5 sums-2-5
-    (f64 0xBDA03C17C589752F) (f64 0xBD18DC35620D0EF9) (f64 0xBCDAE425576A0998) pose-5 true true
-unfolding viewOf withRows noMatches solvedSums moved sound still arithmetic
-pass-2-5 = record { enough = refl; view = refl; sums = refl; solution = refl; pose = refl; soundness = refl; stillness = refl }
+pass_2_5 : Pass k.cut rows_2 pose_4 view_2_5 sums_2_5
+    (f64 0xBDA03C17C589752F) (f64 0xBD18DC35620D0EF9) (f64 0xBCDAE425576A0998) pose_5 true true
+unfolding view_of with_rows no_matches solved_sums moved sound still arithmetic
+pass_2_5 = record { enough = refl; view = refl; sums = refl; solution = refl; pose = refl; soundness = refl; stillness = refl }
 
-passes-2 : fitPasses 10 k.cut rows-2 pose-0 ≡ passesOf pose-5 5 true
-passes-2 = next-pass 9 pass-2-1
-    (next-pass 8 pass-2-2
-    (next-pass 7 pass-2-3
-    (next-pass 6 pass-2-4
-    (last-pass 5 pass-2-5))))
+passes_2 : fit_passes 10 k.cut rows_2 pose_0 ≡ passes_of pose_5 5 true
+passes_2 = next_pass 9 pass_2_1
+    (next_pass 8 pass_2_2
+    (next_pass 7 pass_2_3
+    (next_pass 6 pass_2_4
+    (last_pass 5 pass_2_5))))
 
-abbrev view-2 : View
-view-2 = record {
+abbrev view_2 : View
+view_2 = record {
   basis =
       (f64 0x3F164CE8C34E76C7 ∷ f64 0x3FEFFFFFFE0EB0E4 ∷ zero64 ∷ [])
       ∷ (f64 0xBED805AB67E002FE ∷ f64 0x3E00BDA20B3D054A ∷ f64 0x3FEFFFFFFFFDBEF0 ∷ [])
       ∷ (f64 0x3FEFFFFFFE0C6FD3 ∷ f64 0xBF164CE8C34CE4A0 ∷ f64 0x3ED805AB69555670 ∷ [])
       ∷ [];
-  cosT = f64 0x3FEFFFFE260EB8D1;
-  sinT = f64 0xBF55C52CD7EF3905;
+  cos_t = f64 0x3FEFFFFE260EB8D1;
+  sin_t = f64 0xBF55C52CD7EF3905;
   ps = f64 0x3F50000000000000;
   cut = f64 0x3D719799812DEA11;
 }
 
-abbrev residuals-2 : List Float
-residuals-2 =
+abbrev residuals_2 : List Float
+residuals_2 =
     f64 0x3F1AE7BEC2AB59CF
     ∷ f64 0x3F11077336A40568
     ∷ f64 0x3F21742A1ABE7825
@@ -401,21 +401,21 @@ residuals-2 =
     ∷ f64 0x3F4D1509207EE474
     ∷ []
 
-measured-2 : Measured k rows-2 pose-5 (2 ∷ 2 ∷ 1 ∷ 1 ∷ 6 ∷ 6 ∷ 0 ∷ 0 ∷ 3 ∷ 3 ∷ 4 ∷ 4 ∷ 5 ∷ 5 ∷ []) view-2 residuals-2
+measured_2 : Measured k rows_2 pose_5 (2 ∷ 2 ∷ 1 ∷ 1 ∷ 6 ∷ 6 ∷ 0 ∷ 0 ∷ 3 ∷ 3 ∷ 4 ∷ 4 ∷ 5 ∷ 5 ∷ []) view_2 residuals_2
     (some (record { median = f64 0x3F21742A1ABE7825; sigma = f64 0x3F10E61536F51F70 }))
     (2 ∷ 2 ∷ 1 ∷ 1 ∷ 6 ∷ 6 ∷ 0 ∷ 0 ∷ 3 ∷ 3 ∷ 4 ∷ 4 ∷ []) (f64 0x4004000000000000)
-unfolding viewOf residuals statistics clipped adaptivePx arithmetic
-measured-2 = record { view = refl; values = refl; summary = refl; clip = refl; radius = refl }
+unfolding view_of residuals statistics clipped adaptive_px arithmetic
+measured_2 = record { view = refl; values = refl; summary = refl; clip = refl; radius = refl }
 
-abbrev camera-2 : List (List Float)
-camera-2 =
+abbrev camera_2 : List (List Float)
+camera_2 =
     (f64 0x3F164D6A36EDEBAA ∷ f64 0x3FEFFFFE241D530A ∷ f64 0xBF55C52CD7EDB06F ∷ [])
     ∷ (f64 0xBED78C4AF84C4A88 ∷ f64 0x3F55C52D5C89ED6C ∷ f64 0x3FEFFFFE260C77C1 ∷ [])
     ∷ (f64 0x3FEFFFFFFE0C6FD3 ∷ f64 0xBF164CE8C34CE4A0 ∷ f64 0x3ED805AB69555670 ∷ [])
     ∷ []
 
-abbrev predictions-2 : List Prediction
-predictions-2 =
+abbrev predictions_2 : List Prediction
+predictions_2 =
     record { direction = 0; x = f64 0x4024A77C0BE7A67F; y = f64 0x3F80178613F0A8B9 }
     ∷ record { direction = 1; x = f64 0xC020387AB747DC3A; y = f64 0x40105143A37E14AA }
     ∷ record { direction = 2; x = f64 0x4000F61155C090DC; y = f64 0x4026859D01C33E4A }
@@ -425,45 +425,45 @@ predictions-2 =
     ∷ record { direction = 6; x = f64 0x3FB541E704C3D388; y = f64 0x400887AD28F1F6C4 }
     ∷ []
 
-abbrev state-2 : State
-state-2 = record {
-  pose = pose-5;
+abbrev state_2 : State
+state_2 = record {
+  pose = pose_5;
   matches = 1 ∷ 1 ∷ 0 ∷ 0 ∷ 2 ∷ 2 ∷ 6 ∷ 6 ∷ 4 ∷ 4 ∷ 3 ∷ 3 ∷ 5 ∷ 5 ∷ [];
-  cache = full centre-1 pose-0.theta (0 ∷ 1 ∷ 2 ∷ 3 ∷ 4 ∷ 5 ∷ 6 ∷ []);
+  cache = full centre_1 pose_0.theta (0 ∷ 1 ∷ 2 ∷ 3 ∷ 4 ∷ 5 ∷ 6 ∷ []);
 }
 
-reused-2 : Reused k spots directions pose-5 (2 ∷ 2 ∷ 1 ∷ 1 ∷ 6 ∷ 6 ∷ 0 ∷ 0 ∷ 3 ∷ 3 ∷ 4 ∷ 4 ∷ []) (f64 0x4004000000000000)
-    centre-1 pose-0.theta (0 ∷ 1 ∷ 2 ∷ 3 ∷ 4 ∷ 5 ∷ 6 ∷ [])
-    camera-2 predictions-2 (go state-2) 12
-unfolding drifted cameraRows predictions pointsOf associated compared arithmetic
-reused-2 = record { near = refl; camera = refl; places = refl; matcher = refl; counted = refl }
+reused_2 : Reused k spots directions pose_5 (2 ∷ 2 ∷ 1 ∷ 1 ∷ 6 ∷ 6 ∷ 0 ∷ 0 ∷ 3 ∷ 3 ∷ 4 ∷ 4 ∷ []) (f64 0x4004000000000000)
+    centre_1 pose_0.theta (0 ∷ 1 ∷ 2 ∷ 3 ∷ 4 ∷ 5 ∷ 6 ∷ [])
+    camera_2 predictions_2 (go state_2) 12
+unfolding drifted camera_rows predictions points_of associated compared arithmetic
+reused_2 = record { near = refl; camera = refl; places = refl; matcher = refl; counted = refl }
 
-round-2 : round k spots directions state-1 ≡ roundOf (go state-2) [] 5 12
-round-2 = whole-round k spots directions state-1 looked-2 passes-2 measured-2
-    (same-search reused-2)
+round_2 : round k spots directions state_1 ≡ round_of (go state_2) [] 5 12
+round_2 = whole_round k spots directions state_1 looked_2 passes_2 measured_2
+    (same_search reused_2)
 
-run : loop k spots directions 2 state-0 ≡ ranOf (ended state-2) 2 5 ((0 ∷ 1 ∷ 2 ∷ 3 ∷ 4 ∷ 5 ∷ 6 ∷ []) ∷ []) 12
-run = go-round k spots directions 1 state-0 round-1 (go-round k spots directions 0 state-1 round-2 (no-round k spots directions state-2))
+run : loop k spots directions 2 state_0 ≡ ran_of (ended state_2) 2 5 ((0 ∷ 1 ∷ 2 ∷ 3 ∷ 4 ∷ 5 ∷ 6 ∷ []) ∷ []) 12
+run = go_round k spots directions 1 state_0 round_1 (go_round k spots directions 0 state_1 round_2 (no_round k spots directions state_2))
 
 -- ---- the whole call
 
 -- What each of its queries lists.
-pub last-clip-listed : queries last-clip-call ≡ (0 ∷ 1 ∷ 2 ∷ 3 ∷ 4 ∷ 5 ∷ 6 ∷ []) ∷ []
-last-clip-listed = queried-call begun run
+pub last_clip_listed : queries last_clip_call ≡ (0 ∷ 1 ∷ 2 ∷ 3 ∷ 4 ∷ 5 ∷ 6 ∷ []) ∷ []
+last_clip_listed = queried_call begun run
 
-abbrev rows-clip-1 : List Row
-rows-clip-1 =
-    rowOf (record { px = f64 0xC020500000000000; py = f64 0x4010200000000000; weight = f64 0x4008000000000000 }) (one64 ∷ f64 0xBF80624DE0000000 ∷ f64 0x3F70624DE0000000 ∷ [])
-    ∷ rowOf (record { px = f64 0x4024B80000000000; py = f64 0xBFB4000000000000; weight = f64 0x4000000000000000 }) (one64 ∷ f64 0x3F847AE140000000 ∷ zero64 ∷ [])
-    ∷ rowOf (record { px = f64 0x4000200000000000; py = f64 0x4026800000000000; weight = one64 }) (one64 ∷ f64 0x3F60624DE0000000 ∷ f64 0x3F86872B00000000 ∷ [])
-    ∷ rowOf (record { px = f64 0xBFA0000000000000; py = f64 0x4009200000000000; weight = f64 0x4010000000000000 }) (one64 ∷ zero64 ∷ f64 0x3F689374C0000000 ∷ [])
-    ∷ rowOf (record { px = f64 0x4022B00000000000; py = f64 0x4020200000000000; weight = one64 }) (one64 ∷ f64 0x3F826E9780000000 ∷ f64 0x3F80624DE0000000 ∷ [])
-    ∷ rowOf (record { px = f64 0xC009400000000000; py = f64 0xC024300000000000; weight = f64 0x3FE0000000000000 }) (one64 ∷ f64 0xBF689374C0000000 ∷ f64 0xBF847AE140000000 ∷ [])
-    ∷ rowOf (record { px = f64 0xC026980000000000; py = f64 0xBFFF400000000000; weight = f64 0x3FE8000000000000 }) (one64 ∷ f64 0xBF889374C0000000 ∷ f64 0xBF60624DE0000000 ∷ [])
+abbrev rows_clip_1 : List Row
+rows_clip_1 =
+    row_of (record { px = f64 0xC020500000000000; py = f64 0x4010200000000000; weight = f64 0x4008000000000000 }) (one64 ∷ f64 0xBF80624DE0000000 ∷ f64 0x3F70624DE0000000 ∷ [])
+    ∷ row_of (record { px = f64 0x4024B80000000000; py = f64 0xBFB4000000000000; weight = f64 0x4000000000000000 }) (one64 ∷ f64 0x3F847AE140000000 ∷ zero64 ∷ [])
+    ∷ row_of (record { px = f64 0x4000200000000000; py = f64 0x4026800000000000; weight = one64 }) (one64 ∷ f64 0x3F60624DE0000000 ∷ f64 0x3F86872B00000000 ∷ [])
+    ∷ row_of (record { px = f64 0xBFA0000000000000; py = f64 0x4009200000000000; weight = f64 0x4010000000000000 }) (one64 ∷ zero64 ∷ f64 0x3F689374C0000000 ∷ [])
+    ∷ row_of (record { px = f64 0x4022B00000000000; py = f64 0x4020200000000000; weight = one64 }) (one64 ∷ f64 0x3F826E9780000000 ∷ f64 0x3F80624DE0000000 ∷ [])
+    ∷ row_of (record { px = f64 0xC009400000000000; py = f64 0xC024300000000000; weight = f64 0x3FE0000000000000 }) (one64 ∷ f64 0xBF689374C0000000 ∷ f64 0xBF847AE140000000 ∷ [])
+    ∷ row_of (record { px = f64 0xC026980000000000; py = f64 0xBFFF400000000000; weight = f64 0x3FE8000000000000 }) (one64 ∷ f64 0xBF889374C0000000 ∷ f64 0xBF60624DE0000000 ∷ [])
     ∷ []
 
-abbrev residuals-clip-1 : List Float
-residuals-clip-1 =
+abbrev residuals_clip_1 : List Float
+residuals_clip_1 =
     f64 0x3F11077336A40568
     ∷ f64 0x3F17826D0FB1CA79
     ∷ f64 0x3F1AE7BEC2AB59CF
@@ -473,24 +473,24 @@ residuals-clip-1 =
     ∷ f64 0x3F4D1509207EE474
     ∷ []
 
-clip-1 : Clipping k spots directions pose-5 (1 ∷ 1 ∷ 0 ∷ 0 ∷ 2 ∷ 2 ∷ 6 ∷ 6 ∷ 4 ∷ 4 ∷ 3 ∷ 3 ∷ 5 ∷ 5 ∷ []) rows-clip-1 view-2 residuals-clip-1
+clip_1 : Clipping k spots directions pose_5 (1 ∷ 1 ∷ 0 ∷ 0 ∷ 2 ∷ 2 ∷ 6 ∷ 6 ∷ 4 ∷ 4 ∷ 3 ∷ 3 ∷ 5 ∷ 5 ∷ []) rows_clip_1 view_2 residuals_clip_1
     (record { median = f64 0x3F21742A1ABE7825; sigma = f64 0x3F10E61536F51F70 })
     (Kept 6) (1 ∷ 1 ∷ 0 ∷ 0 ∷ 2 ∷ 2 ∷ 6 ∷ 6 ∷ 4 ∷ 4 ∷ 3 ∷ 3 ∷ 5 ∷ 5 ∷ [])
-unfolding rows viewOf residuals statistics madClipMatches arithmetic
-clip-1 = record { enough = refl; looked = refl; view = refl; values = refl; summary = refl; clip = refl }
+unfolding rows view_of residuals statistics mad_clip_matches arithmetic
+clip_1 = record { enough = refl; looked = refl; view = refl; values = refl; summary = refl; clip = refl }
 
-abbrev rows-refit-1 : List Row
-rows-refit-1 =
-    rowOf (record { px = f64 0xC020500000000000; py = f64 0x4010200000000000; weight = f64 0x4008000000000000 }) (one64 ∷ f64 0xBF80624DE0000000 ∷ f64 0x3F70624DE0000000 ∷ [])
-    ∷ rowOf (record { px = f64 0x4024B80000000000; py = f64 0xBFB4000000000000; weight = f64 0x4000000000000000 }) (one64 ∷ f64 0x3F847AE140000000 ∷ zero64 ∷ [])
-    ∷ rowOf (record { px = f64 0x4000200000000000; py = f64 0x4026800000000000; weight = one64 }) (one64 ∷ f64 0x3F60624DE0000000 ∷ f64 0x3F86872B00000000 ∷ [])
-    ∷ rowOf (record { px = f64 0xBFA0000000000000; py = f64 0x4009200000000000; weight = f64 0x4010000000000000 }) (one64 ∷ zero64 ∷ f64 0x3F689374C0000000 ∷ [])
-    ∷ rowOf (record { px = f64 0x4022B00000000000; py = f64 0x4020200000000000; weight = one64 }) (one64 ∷ f64 0x3F826E9780000000 ∷ f64 0x3F80624DE0000000 ∷ [])
-    ∷ rowOf (record { px = f64 0xC009400000000000; py = f64 0xC024300000000000; weight = f64 0x3FE0000000000000 }) (one64 ∷ f64 0xBF689374C0000000 ∷ f64 0xBF847AE140000000 ∷ [])
+abbrev rows_refit_1 : List Row
+rows_refit_1 =
+    row_of (record { px = f64 0xC020500000000000; py = f64 0x4010200000000000; weight = f64 0x4008000000000000 }) (one64 ∷ f64 0xBF80624DE0000000 ∷ f64 0x3F70624DE0000000 ∷ [])
+    ∷ row_of (record { px = f64 0x4024B80000000000; py = f64 0xBFB4000000000000; weight = f64 0x4000000000000000 }) (one64 ∷ f64 0x3F847AE140000000 ∷ zero64 ∷ [])
+    ∷ row_of (record { px = f64 0x4000200000000000; py = f64 0x4026800000000000; weight = one64 }) (one64 ∷ f64 0x3F60624DE0000000 ∷ f64 0x3F86872B00000000 ∷ [])
+    ∷ row_of (record { px = f64 0xBFA0000000000000; py = f64 0x4009200000000000; weight = f64 0x4010000000000000 }) (one64 ∷ zero64 ∷ f64 0x3F689374C0000000 ∷ [])
+    ∷ row_of (record { px = f64 0x4022B00000000000; py = f64 0x4020200000000000; weight = one64 }) (one64 ∷ f64 0x3F826E9780000000 ∷ f64 0x3F80624DE0000000 ∷ [])
+    ∷ row_of (record { px = f64 0xC009400000000000; py = f64 0xC024300000000000; weight = f64 0x3FE0000000000000 }) (one64 ∷ f64 0xBF689374C0000000 ∷ f64 0xBF847AE140000000 ∷ [])
     ∷ []
 
-abbrev sums-refit-1 : Counted
-sums-refit-1 = record {
+abbrev sums_refit_1 : Counted
+sums_refit_1 = record {
   sums = record {
     ata0 = f64 0x3F4A4A4C80000000 ∷ f64 0xBFA360FDB7CB9419 ∷ f64 0x3F77D4BD9BFF0BC6 ∷ [];
     ata1 = f64 0xBFA360FDB7CB9419 ∷ f64 0x4027000000000000 ∷ zero64 ∷ [];
@@ -500,40 +500,40 @@ sums-refit-1 = record {
   n = 6;
 }
 
-abbrev pose-6 : Pose
-pose-6 = record {
+abbrev pose_6 : Pose
+pose_6 = record {
   theta = f64 0x3F62C959497A1118;
   ra = f64 0xBEF080B11847A8AC;
   dec = f64 0x3EE7A0D96FB14CE7;
   scale = f64 0x3F50000000000000;
 }
 
-kept-1 : taken (Kept 6) (1 ∷ 1 ∷ 0 ∷ 0 ∷ 2 ∷ 2 ∷ 6 ∷ 6 ∷ 4 ∷ 4 ∷ 3 ∷ 3 ∷ 5 ∷ 5 ∷ [])
+kept_1 : taken (Kept 6) (1 ∷ 1 ∷ 0 ∷ 0 ∷ 2 ∷ 2 ∷ 6 ∷ 6 ∷ 4 ∷ 4 ∷ 3 ∷ 3 ∷ 5 ∷ 5 ∷ [])
     (1 ∷ 1 ∷ 0 ∷ 0 ∷ 2 ∷ 2 ∷ 6 ∷ 6 ∷ 4 ∷ 4 ∷ 3 ∷ 3 ∷ 5 ∷ 5 ∷ [])
     ≡ 1 ∷ 1 ∷ 0 ∷ 0 ∷ 2 ∷ 2 ∷ 6 ∷ 6 ∷ 4 ∷ 4 ∷ 3 ∷ 3 ∷ []
 unfolding taken
-kept-1 = refl
+kept_1 = refl
 
-refit-1 : Refit k spots directions pose-5 (1 ∷ 1 ∷ 0 ∷ 0 ∷ 2 ∷ 2 ∷ 6 ∷ 6 ∷ 4 ∷ 4 ∷ 3 ∷ 3 ∷ []) rows-refit-1 view-2 sums-refit-1
-    (f64 0x3F6DABEFEB2ECA39) (f64 0x3F122CBC7E296372) (f64 0x3ED73C0777F58758) pose-6
-unfolding rows viewOf withRows noMatches solvedSums moved sound arithmetic
-refit-1 = record { looked = refl; view = refl; sums = refl; solution = refl; pose = refl; soundness = refl }
+refit_1 : Refit k spots directions pose_5 (1 ∷ 1 ∷ 0 ∷ 0 ∷ 2 ∷ 2 ∷ 6 ∷ 6 ∷ 4 ∷ 4 ∷ 3 ∷ 3 ∷ []) rows_refit_1 view_2 sums_refit_1
+    (f64 0x3F6DABEFEB2ECA39) (f64 0x3F122CBC7E296372) (f64 0x3ED73C0777F58758) pose_6
+unfolding rows view_of with_rows no_matches solved_sums moved sound arithmetic
+refit_1 = record { looked = refl; view = refl; sums = refl; solution = refl; pose = refl; soundness = refl }
 
-abbrev view-clip-2 : View
-view-clip-2 = record {
+abbrev view_clip_2 : View
+view_clip_2 = record {
   basis =
       (f64 0x3EF080B11844BB9E ∷ f64 0x3FEFFFFFFFEEFA93 ∷ zero64 ∷ [])
       ∷ (f64 0xBEE7A0D96FA295CC ∷ f64 0x3DE85EE5C268CAD2 ∷ f64 0x3FEFFFFFFFF746D0 ∷ [])
       ∷ (f64 0x3FEFFFFFFFE64162 ∷ f64 0xBEF080B118403BF0 ∷ f64 0x3EE7A0D96FAF2740 ∷ [])
       ∷ [];
-  cosT = f64 0x3FEFFFFA7C4479E5;
-  sinT = f64 0x3F62C9583535F322;
+  cos_t = f64 0x3FEFFFFA7C4479E5;
+  sin_t = f64 0x3F62C9583535F322;
   ps = f64 0x3F50000000000000;
   cut = f64 0x3D719799812DEA11;
 }
 
-abbrev residuals-clip-2 : List Float
-residuals-clip-2 =
+abbrev residuals_clip_2 : List Float
+residuals_clip_2 =
     f64 0x3F129AF122A9E90F
     ∷ f64 0x3F1CA75A5FEA2E7E
     ∷ f64 0x3F130707B7825103
@@ -542,15 +542,15 @@ residuals-clip-2 =
     ∷ f64 0x3F25A8E996608074
     ∷ []
 
-clip-2 : Clipping k spots directions pose-6 (1 ∷ 1 ∷ 0 ∷ 0 ∷ 2 ∷ 2 ∷ 6 ∷ 6 ∷ 4 ∷ 4 ∷ 3 ∷ 3 ∷ []) rows-refit-1 view-clip-2 residuals-clip-2
+clip_2 : Clipping k spots directions pose_6 (1 ∷ 1 ∷ 0 ∷ 0 ∷ 2 ∷ 2 ∷ 6 ∷ 6 ∷ 4 ∷ 4 ∷ 3 ∷ 3 ∷ []) rows_refit_1 view_clip_2 residuals_clip_2
     (record { median = f64 0x3F1CA75A5FEA2E7E; sigma = f64 0x3F0C8B35D055FA4E })
     Unchanged (1 ∷ 1 ∷ 0 ∷ 0 ∷ 2 ∷ 2 ∷ 6 ∷ 6 ∷ 4 ∷ 4 ∷ 3 ∷ 3 ∷ [])
-unfolding rows viewOf residuals statistics madClipMatches arithmetic
-clip-2 = record { enough = refl; looked = refl; view = refl; values = refl; summary = refl; clip = refl }
+unfolding rows view_of residuals statistics mad_clip_matches arithmetic
+clip_2 = record { enough = refl; looked = refl; view = refl; values = refl; summary = refl; clip = refl }
 
-looked-last : rows spots directions (1 ∷ 1 ∷ 0 ∷ 0 ∷ 2 ∷ 2 ∷ 6 ∷ 6 ∷ 4 ∷ 4 ∷ 3 ∷ 3 ∷ []) ≡ rows-refit-1
+looked_last : rows spots directions (1 ∷ 1 ∷ 0 ∷ 0 ∷ 2 ∷ 2 ∷ 6 ∷ 6 ∷ 4 ∷ 4 ∷ 3 ∷ 3 ∷ []) ≡ rows_refit_1
 unfolding rows
-looked-last = refl
+looked_last = refl
 
 abbrev normal : Counted
 normal = record {
@@ -576,14 +576,14 @@ spread =
     ∷ (f64 0xBE3A704B34F95B79 ∷ f64 0xBDB649D4293B8326 ∷ f64 0x3E093A5B183FFABB ∷ [])
     ∷ []
 
-reported : Reported k pose-6 rows-refit-1 view-clip-2 residuals-clip-2
+reported : Reported k pose_6 rows_refit_1 view_clip_2 residuals_clip_2
     (f64 0x3E74508EC539E496) normal matrix (f64 0x3F1D70D70EAB54C6) spread
-unfolding viewOf residuals inFront sumSquares normalMatrix cdFromTheta rootMean covarianceFromNormal arithmetic
+unfolding view_of residuals in_front sum_squares normal_matrix cd_from_theta root_mean covariance_from_normal arithmetic
 reported = record { view = refl; values = refl; squares = refl; normal = refl; matrix = refl; mean = refl; spread = refl }
 
 -- What it comes to.
-pub last-clip-row : outcome last-clip-call ≡ record {
-  answer = ok (reportOf pose-6 matrix (f64 0x3F1D70D70EAB54C6) spread (1 ∷ 1 ∷ 0 ∷ 0 ∷ 2 ∷ 2 ∷ 6 ∷ 6 ∷ 4 ∷ 4 ∷ 3 ∷ 3 ∷ [])) 2 5 1 12;
+pub last_clip_row : outcome last_clip_call ≡ record {
+  answer = ok (report_of pose_6 matrix (f64 0x3F1D70D70EAB54C6) spread (1 ∷ 1 ∷ 0 ∷ 0 ∷ 2 ∷ 2 ∷ 6 ∷ 6 ∷ 4 ∷ 4 ∷ 3 ∷ 3 ∷ [])) 2 5 1 12;
   lent = record {
     numbers = replicate 224 0;
     floats = replicate 224 zero64;
@@ -593,6 +593,6 @@ pub last-clip-row : outcome last-clip-call ≡ record {
   };
 }
 unfolding left
-last-clip-row = accepted-call begun run
-    (next-clip 2 clip-1 kept-1 refit-1
-    (last-clip 1 clip-2)) looked-last reported
+last_clip_row = accepted_call begun run
+    (next_clip 2 clip_1 kept_1 refit_1
+    (last_clip 1 clip_2)) looked_last reported

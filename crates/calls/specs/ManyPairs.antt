@@ -2,24 +2,24 @@
 -- Written by tools/rows/rows.py: the values are those of its model, and the check computes every equation. Assumes nothing.
 use Rattle.std.specs.Prelude.{◌≡◌, refl, true, false, List, [], ◌∷◌, replicate, Float}
 use Rattle.rounding.specs.Arith.{f64, zero64, one64}
-use Rattle.project.specs.Camera.{boresight, cameraRows}
-use Rattle.panel.specs.Points.{pointsOf}
-use Rattle.fit.specs.Rows.{Row, rows, View, viewOf}
+use Rattle.project.specs.Camera.{boresight, camera_rows}
+use Rattle.panel.specs.Points.{points_of}
+use Rattle.fit.specs.Rows.{Row, rows, View, view_of}
 use Rattle.residuals.specs.Residual.{residuals}
 use Rattle.fit.specs.declared.Pose.{Pose}
 use Rattle.entry.specs.Arguments.{Call}
 use Rattle.entry.specs.Fixed.{Fixed}
-use Rattle.passes.specs.Fit.{fitPasses}
+use Rattle.passes.specs.Fit.{fit_passes}
 use Rattle.wcs_refine.specs.Clip.{none, statistics, clipped}
-use Rattle.wcs_refine.specs.Associate.{adaptivePx}
-use Rattle.query.specs.Query.{empty, axis32, leastCos, scanned, Prediction, predictions, pruned}
+use Rattle.wcs_refine.specs.Associate.{adaptive_px}
+use Rattle.query.specs.Query.{empty, axis32, least_cos, scanned, Prediction, predictions, pruned}
 use Rattle.wcs_refine.specs.Round.{State, refuse, associated, compared, refused, loop, round}
 use Rattle.wcs_refine.specs.Call.{no, left, outcome, queries}
 use Rattle.rounding.specs.Computed.{arithmetic}
 use Rattle.calls.specs.Computed.{checks}
-use Rattle.calls.specs.Steps.{no-pass, passesOf, Measured, Queried, first-search}
-use Rattle.calls.specs.Steps.{whole-round, roundOf, refused-round, ranOf}
-use Rattle.calls.specs.Steps.{Begun, queried-call, refused-call}
+use Rattle.calls.specs.Steps.{no_pass, passes_of, Measured, Queried, first_search}
+use Rattle.calls.specs.Steps.{whole_round, round_of, refused_round, ran_of}
+use Rattle.calls.specs.Steps.{Begun, queried_call, refused_call}
 
 -- The call's spots.
 abbrev spots : List Float
@@ -41,8 +41,8 @@ directions =
     ∷ []
 
 -- The call, with its lent lists as they come.
-abbrev pub many-pairs-call : Call
-many-pairs-call = record {
+abbrev pub many_pairs_call : Call
+many_pairs_call = record {
   spots = spots;
   directions = directions;
   given = record {
@@ -82,94 +82,94 @@ k = record {
   far = f64 0x404E000000000000;
 }
 
-abbrev pose-0 : Pose
-pose-0 = record {
+abbrev pose_0 : Pose
+pose_0 = record {
   theta = zero64;
   ra = zero64;
   dec = zero64;
   scale = f64 0x3F50000000000000;
 }
 
-abbrev state-0 : State
-state-0 = record { pose = pose-0; matches = []; cache = empty }
+abbrev state_0 : State
+state_0 = record { pose = pose_0; matches = []; cache = empty }
 
-begun : Begun many-pairs-call k state-0
+begun : Begun many_pairs_call k state_0
 unfolding checks
 begun = record { accepted = refl; same = refl; begins = refl }
 
 -- ---- round 1
 
-abbrev rows-1 : List Row
-rows-1 = []
+abbrev rows_1 : List Row
+rows_1 = []
 
-looked-1 : rows spots directions ([]) ≡ rows-1
+looked_1 : rows spots directions ([]) ≡ rows_1
 unfolding rows
-looked-1 = refl
+looked_1 = refl
 
-passes-1 : fitPasses 10 k.cut rows-1 pose-0 ≡ passesOf pose-0 0 true
-passes-1 = no-pass 9 k.cut rows-1 pose-0 refl
+passes_1 : fit_passes 10 k.cut rows_1 pose_0 ≡ passes_of pose_0 0 true
+passes_1 = no_pass 9 k.cut rows_1 pose_0 refl
 
-abbrev view-1 : View
-view-1 = record {
+abbrev view_1 : View
+view_1 = record {
   basis =
       (f64 0x8000000000000000 ∷ one64 ∷ zero64 ∷ [])
       ∷ (zero64 ∷ f64 0x8000000000000000 ∷ one64 ∷ [])
       ∷ (one64 ∷ zero64 ∷ zero64 ∷ [])
       ∷ [];
-  cosT = one64;
-  sinT = zero64;
+  cos_t = one64;
+  sin_t = zero64;
   ps = f64 0x3F50000000000000;
   cut = f64 0x3D719799812DEA11;
 }
 
-abbrev residuals-1 : List Float
-residuals-1 = []
+abbrev residuals_1 : List Float
+residuals_1 = []
 
-measured-1 : Measured k rows-1 pose-0 ([]) view-1 residuals-1
+measured_1 : Measured k rows_1 pose_0 ([]) view_1 residuals_1
     none
     ([]) (f64 0x403EB851E0000000)
-unfolding viewOf residuals statistics clipped adaptivePx arithmetic
-measured-1 = record { view = refl; values = refl; summary = refl; clip = refl; radius = refl }
+unfolding view_of residuals statistics clipped adaptive_px arithmetic
+measured_1 = record { view = refl; values = refl; summary = refl; clip = refl; radius = refl }
 
-abbrev centre-1 : List Float
-centre-1 = one64 ∷ zero64 ∷ zero64 ∷ []
+abbrev centre_1 : List Float
+centre_1 = one64 ∷ zero64 ∷ zero64 ∷ []
 
-abbrev camera-1 : List (List Float)
-camera-1 =
+abbrev camera_1 : List (List Float)
+camera_1 =
     (f64 0x8000000000000000 ∷ one64 ∷ zero64 ∷ [])
     ∷ (zero64 ∷ f64 0x8000000000000000 ∷ one64 ∷ [])
     ∷ (one64 ∷ zero64 ∷ zero64 ∷ [])
     ∷ []
 
-abbrev predictions-1 : List Prediction
-predictions-1 =
+abbrev predictions_1 : List Prediction
+predictions_1 =
     record { direction = 0; x = f64 0x40247AE140000000; y = zero64 }
     ∷ record { direction = 1; x = f64 0xC020624DE0000000; y = f64 0x4010624DE0000000 }
     ∷ record { direction = 2; x = f64 0x4000624DE0000000; y = f64 0x4026872B00000000 }
     ∷ record { direction = 3; x = f64 0xC0089374C0000000; y = f64 0xC0247AE140000000 }
     ∷ []
 
-queried-1 : Queried k spots directions pose-0 ([]) (f64 0x403EB851E0000000)
-    centre-1 (one64 ∷ zero64 ∷ zero64 ∷ []) (f64 0x3FEFA693C0000000)
-    (0 ∷ 1 ∷ 2 ∷ 3 ∷ []) camera-1 (0 ∷ 1 ∷ 2 ∷ 3 ∷ []) predictions-1 (refuse 13) 0
-unfolding boresight axis32 leastCos scanned cameraRows pruned predictions pointsOf associated compared arithmetic
-queried-1 = record { centre = refl; narrow = refl; least = refl; scan = refl; camera = refl; cached = refl; places = refl; matcher = refl; counted = refl }
+queried_1 : Queried k spots directions pose_0 ([]) (f64 0x403EB851E0000000)
+    centre_1 (one64 ∷ zero64 ∷ zero64 ∷ []) (f64 0x3FEFA693C0000000)
+    (0 ∷ 1 ∷ 2 ∷ 3 ∷ []) camera_1 (0 ∷ 1 ∷ 2 ∷ 3 ∷ []) predictions_1 (refuse 13) 0
+unfolding boresight axis32 least_cos scanned camera_rows pruned predictions points_of associated compared arithmetic
+queried_1 = record { centre = refl; narrow = refl; least = refl; scan = refl; camera = refl; cached = refl; places = refl; matcher = refl; counted = refl }
 
-round-1 : round k spots directions state-0 ≡ roundOf (refuse 13) ((0 ∷ 1 ∷ 2 ∷ 3 ∷ []) ∷ []) 0 0
-round-1 = whole-round k spots directions state-0 looked-1 passes-1 measured-1
-    (first-search queried-1)
+round_1 : round k spots directions state_0 ≡ round_of (refuse 13) ((0 ∷ 1 ∷ 2 ∷ 3 ∷ []) ∷ []) 0 0
+round_1 = whole_round k spots directions state_0 looked_1 passes_1 measured_1
+    (first_search queried_1)
 
-run : loop k spots directions 2 state-0 ≡ ranOf (refused 13) 1 0 ((0 ∷ 1 ∷ 2 ∷ 3 ∷ []) ∷ []) 0
-run = refused-round k spots directions 1 state-0 round-1
+run : loop k spots directions 2 state_0 ≡ ran_of (refused 13) 1 0 ((0 ∷ 1 ∷ 2 ∷ 3 ∷ []) ∷ []) 0
+run = refused_round k spots directions 1 state_0 round_1
 
 -- ---- the whole call
 
 -- What each of its queries lists.
-pub many-pairs-listed : queries many-pairs-call ≡ (0 ∷ 1 ∷ 2 ∷ 3 ∷ []) ∷ []
-many-pairs-listed = queried-call begun run
+pub many_pairs_listed : queries many_pairs_call ≡ (0 ∷ 1 ∷ 2 ∷ 3 ∷ []) ∷ []
+many_pairs_listed = queried_call begun run
 
 -- What it comes to.
-pub many-pairs-row : outcome many-pairs-call ≡ record {
+pub many_pairs_row : outcome many_pairs_call ≡ record {
   answer = no 13;
   lent = record {
     numbers = replicate 144 0;
@@ -180,4 +180,4 @@ pub many-pairs-row : outcome many-pairs-call ≡ record {
   };
 }
 unfolding left
-many-pairs-row = refused-call begun run
+many_pairs_row = refused_call begun run

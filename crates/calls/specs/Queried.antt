@@ -6,14 +6,14 @@ use Rattle.std.proofs.Common.{ap, sym, subst, true≢false, inl, inr, arith}
 use Rattle.std.specs.Float.Ieee.{neg, lt}
 use Rattle.rounding.specs.Arith.{f64, zero64, one64}
 use Rattle.solve.specs.Vector.{at}
-use Rattle.panel.specs.Spots.{spotAt}
-use Rattle.fit.specs.Rows.{directionAt}
+use Rattle.panel.specs.Spots.{spot_at}
+use Rattle.fit.specs.Rows.{direction_at}
 use Rattle.entry.specs.Arguments.{Call}
 use Rattle.entry.specs.Check.{between, every}
 use Rattle.wcs_refine.specs.Associate.{links}
 use Rattle.wcs_refine.specs.Call.{Outcome, no, outcome, queries}
 use Rattle.wcs_refine.specs.Unseen.{Alike, OnlyUnseen, SpotUnchanged, DirectionUnchanged, DirectionUnseen, SpotUnseen, Listed}
-use Rattle.wcs_refine.proofs.TwoCalls.{unseen-changes-nothing}
+use Rattle.wcs_refine.proofs.TwoCalls.{unseen_changes_nothing}
 use Rattle.rounding.specs.Computed.{arithmetic}
 use Rattle.calls.specs.Computed.{everything}
 use Rattle.calls.specs.Instance.{with}
@@ -34,52 +34,52 @@ abbrev pub after : Call
 after = aside 79 (neg little)
 
 -- Refused by 11, with every lent list as it came.
-abbrev pub turnedAway : Call → Outcome
-turnedAway c = record { answer = no 11; lent = c.given.lent }
+abbrev pub turned_away : Call → Outcome
+turned_away c = record { answer = no 11; lent = c.given.lent }
 
 -- The sentence above, of these calls.
 pub record Queried : Type 0 where
   -- The second direction differs; where the list is long enough, each run lists it, and it is not unseen.
   pub differs : DirectionUnchanged before after 1 → ⊥
-  pub long-before : queries (aside 80 little) ≡ (0 ∷ 1 ∷ []) ∷ []
-  pub long-after : queries (aside 80 (neg little)) ≡ (0 ∷ 1 ∷ []) ∷ []
-  pub long-seen : OnlyUnseen (aside 80 little) (aside 80 (neg little)) → ⊥
+  pub long_before : queries (aside 80 little) ≡ (0 ∷ 1 ∷ []) ∷ []
+  pub long_after : queries (aside 80 (neg little)) ≡ (0 ∷ 1 ∷ []) ∷ []
+  pub long_seen : OnlyUnseen (aside 80 little) (aside 80 (neg little)) → ⊥
   -- Refused before the run, the two calls make no query.
-  pub none-before : queries before ≡ []
-  pub none-after : queries after ≡ []
+  pub none_before : queries before ≡ []
+  pub none_after : queries after ≡ []
   -- So they meet the premises of demand 3.
   pub alike : Alike before after
-  pub only-unseen : OnlyUnseen before after
+  pub only_unseen : OnlyUnseen before after
   -- What demand 3 then says of them, and what each comes to.
   pub same : outcome before ≡ outcome after
-  pub computed-before : outcome before ≡ turnedAway before
-  pub computed-after : outcome after ≡ turnedAway after
+  pub computed_before : outcome before ≡ turned_away before
+  pub computed_after : outcome after ≡ turned_away after
 
 apart : DirectionUnchanged before after 1 → ⊥
-unfolding directionAt arithmetic
+unfolding direction_at arithmetic
 apart e = true≢false (ap (λ (v : List Float). lt zero64 (at v 1)) e)
 
-listed-before : queries (aside 80 little) ≡ (0 ∷ 1 ∷ []) ∷ []
+listed_before : queries (aside 80 little) ≡ (0 ∷ 1 ∷ []) ∷ []
 unfolding everything
-listed-before = refl
+listed_before = refl
 
-listed-after : queries (aside 80 (neg little)) ≡ (0 ∷ 1 ∷ []) ∷ []
+listed_after : queries (aside 80 (neg little)) ≡ (0 ∷ 1 ∷ []) ∷ []
 unfolding everything
-listed-after = refl
+listed_after = refl
 
 seen : OnlyUnseen (aside 80 little) (aside 80 (neg little)) → ⊥
-seen h = (h.direction 1 (omega arith) apart).0.unlisted (subst (Listed 1) (sym listed-before) (inl (inr (inl refl))))
+seen h = (h.direction 1 (omega arith) apart).0.unlisted (subst (Listed 1) (sym listed_before) (inl (inr (inl refl))))
 
-nothing-before : queries before ≡ []
+nothing_before : queries before ≡ []
 unfolding everything
-nothing-before = refl
+nothing_before = refl
 
-nothing-after : queries after ≡ []
+nothing_after : queries after ≡ []
 unfolding everything
-nothing-after = refl
+nothing_after = refl
 
 only : OnlyUnseen before after
-unfolding spotAt directionAt links between every arithmetic
+unfolding spot_at direction_at links between every arithmetic
 only = record {
   direction = directions;
   spot = spots;
@@ -89,34 +89,34 @@ only = record {
         DirectionUnseen before j × DirectionUnseen after j
     directions zero h d = absurd (d refl)
     directions (suc zero) h d = (
-      record { unnamed = λ n. n; unlisted = subst (Listed 1) nothing-before; lawful = tt },
-      record { unnamed = λ n. n; unlisted = subst (Listed 1) nothing-after; lawful = tt },
+      record { unnamed = λ n. n; unlisted = subst (Listed 1) nothing_before; lawful = tt },
+      record { unnamed = λ n. n; unlisted = subst (Listed 1) nothing_after; lawful = tt },
     )
     directions (suc (suc j)) h d = absurd (omega arith)
 
     spots : (i : ℕ) → i < 3 → (SpotUnchanged before after i → ⊥) → SpotUnseen before after i × SpotUnseen after before i
     spots i h d = absurd (d refl)
 
-refused-before : outcome before ≡ turnedAway before
+refused_before : outcome before ≡ turned_away before
 unfolding everything
-refused-before = refl
+refused_before = refl
 
-refused-after : outcome after ≡ turnedAway after
+refused_after : outcome after ≡ turned_away after
 unfolding everything
-refused-after = refl
+refused_after = refl
 
 -- The sentence holds of them.
 pub queried : Queried
 queried = record {
   differs = apart;
-  long-before = listed-before;
-  long-after = listed-after;
-  long-seen = seen;
-  none-before = nothing-before;
-  none-after = nothing-after;
+  long_before = listed_before;
+  long_after = listed_after;
+  long_seen = seen;
+  none_before = nothing_before;
+  none_after = nothing_after;
   alike = record { spots = refl; directions = refl; given = refl };
-  only-unseen = only;
-  same = unseen-changes-nothing before after (record { spots = refl; directions = refl; given = refl }) only;
-  computed-before = refused-before;
-  computed-after = refused-after;
+  only_unseen = only;
+  same = unseen_changes_nothing before after (record { spots = refl; directions = refl; given = refl }) only;
+  computed_before = refused_before;
+  computed_after = refused_after;
 }

@@ -3,18 +3,18 @@
 use Rattle.std.specs.Bool.{Decides}
 use Rattle.std.specs.Prelude.{ℕ, zero, suc, ◌/◌, Bool, true, false, not, ◌&&◌, ◌||◌, List, [], ◌∷◌, length, ◌==◌, nat_lt}
 use Rattle.std.specs.Float.Ieee.{lt, eq, le}
-use Rattle.pairs.specs.Pairs.{spotsWithin}
+use Rattle.pairs.specs.Pairs.{spots_within}
 use Rattle.matching.specs.Greedy.{Match}
 use Rattle.matching.specs.Meaning.{Frame, apart, Once, AllNear, Rising, Explained, Ordered}
 
 -- A test holds of one of a list, of all of a list, of every number below n. (std's words for the first two cannot be computed with.)
-unfoldable pub anyOf : {A : Type 0} → (A → Bool) → List A → Bool
-anyOf t [] = false
-anyOf t (x ∷ l) = t x || anyOf t l
+unfoldable pub any_of : {A : Type 0} → (A → Bool) → List A → Bool
+any_of t [] = false
+any_of t (x ∷ l) = t x || any_of t l
 
-unfoldable pub allOf : {A : Type 0} → (A → Bool) → List A → Bool
-allOf t [] = true
-allOf t (x ∷ l) = t x && allOf t l
+unfoldable pub all_of : {A : Type 0} → (A → Bool) → List A → Bool
+all_of t [] = true
+all_of t (x ∷ l) = t x && all_of t l
 
 unfoldable pub below : ℕ → (ℕ → Bool) → Bool
 below zero t = true
@@ -32,10 +32,10 @@ same m n = m.spot == n.spot && m.prediction == n.prediction
 unfoldable pub shares : Match → Match → Bool
 shares m n = m.spot == n.spot || m.prediction == n.prediction
 
-unfoldable pub usedOnce : List Match → Bool
-unfolding anyOf shares
-usedOnce [] = true
-usedOnce (m ∷ ms) = not (anyOf (shares m) ms) && usedOnce ms
+unfoldable pub used_once : List Match → Bool
+unfolding any_of shares
+used_once [] = true
+used_once (m ∷ ms) = not (any_of (shares m) ms) && used_once ms
 
 -- What the tests say of a list.
 pub record Verdict : Type 0 where
@@ -46,31 +46,31 @@ pub record Verdict : Type 0 where
   pub ordered : Bool
 
 module _ (f : Frame) where
-  unfoldable pub isNear : Match → Bool
-  isNear m =
-      nat_lt m.spot (spotsWithin f.points f.limit) && nat_lt m.prediction (length f.predicted / 2)
-      && le (apart f m) f.radius-sq
+  unfoldable pub is_near : Match → Bool
+  is_near m =
+      nat_lt m.spot (spots_within f.points f.limit) && nat_lt m.prediction (length f.predicted / 2)
+      && le (apart f m) f.radius_sq
 
-  unfoldable pub isEarlier : Match → Match → Bool
-  isEarlier m n =
+  unfoldable pub is_earlier : Match → Match → Bool
+  is_earlier m n =
       lt (apart f m) (apart f n)
       || (eq (apart f m) (apart f n)
       && (nat_lt m.spot n.spot || (m.spot == n.spot && nat_lt m.prediction n.prediction)))
 
   -- The pair is not within the radius, or it was taken, or a taken one that comes earlier shares something with it.
   unfoldable pub accounted : List Match → Match → Bool
-  unfolding isNear anyOf same shares isEarlier
-  accounted ms m = not (isNear m) || (anyOf (same m) ms || anyOf (λ n. shares m n && isEarlier n m) ms)
+  unfolding is_near any_of same shares is_earlier
+  accounted ms m = not (is_near m) || (any_of (same m) ms || any_of (λ n. shares m n && is_earlier n m) ms)
 
   unfoldable pub verdict : List Match → Verdict
-  unfolding usedOnce isNear allOf stepwise accounted below isEarlier
+  unfolding used_once is_near all_of stepwise accounted below is_earlier
   verdict ms = record {
-    once = usedOnce ms;
-    near = allOf isNear ms;
+    once = used_once ms;
+    near = all_of is_near ms;
     rising = stepwise (λ m n. le (apart f m) (apart f n)) ms;
-    explained = below (spotsWithin f.points f.limit)
+    explained = below (spots_within f.points f.limit)
         (λ i. below (length f.predicted / 2) (λ j. accounted ms (record { spot = i; prediction = j })));
-    ordered = stepwise isEarlier ms;
+    ordered = stepwise is_earlier ms;
   }
 
 -- Each test is true just where its property holds.

@@ -1,4 +1,4 @@
-// The worked cases of the specification. The substance is `cases` in specs/Cases.antt, `match-lists` in specs/Lists.antt and `orderings`, `standing` in
+// The worked cases of the specification. The substance is `cases` in specs/Cases.antt, `match_lists` in specs/Lists.antt and `orderings`, `standing` in
 // specs/Orderings.antt, which the check computes; a crate has to have a function.
 #![tactic(auto)]
 

@@ -2,12 +2,12 @@
 use mathlib.Core.Path.{ap, ◌∙◌}
 use lib.Ieee.{Float}
 use Rattle.angles.specs.Inverse.{atan2}
-use Rattle.angles.proofs.Theorems.{atan2-special-values}
+use Rattle.angles.proofs.Theorems.{atan2_special_values}
 use Rattle.solve.specs.Vector.{entry}
-use Rattle.entry.specs.Fixed.{startPoseOf}
+use Rattle.entry.specs.Fixed.{start_pose_of}
 use Rattle.entry.specs.Backwards.{FacesBackwards}
 
-pub faces-backwards : FacesBackwards
-unfolding startPoseOf
-faces-backwards rotation scale s below zero =
-    ap (λ (y : Float). atan2 y (entry rotation 2 0)) zero ∙ atan2-special-values.zero-below s (entry rotation 2 0) below
+pub faces_backwards : FacesBackwards
+unfolding start_pose_of
+faces_backwards rotation scale s below zero =
+    ap (λ (y : Float). atan2 y (entry rotation 2 0)) zero ∙ atan2_special_values.zero_below s (entry rotation 2 0) below

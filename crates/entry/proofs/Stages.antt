@@ -8,48 +8,48 @@ use borrow.Author.Tests.{leb-true}
 use lib.Dec.{leb}
 use lib.Ieee.{Float}
 use Rattle.solve.specs.Vector.{row}
-use Rattle.panel.specs.Spots.{spotNumbers}
-use Rattle.entry.specs.Check.{divides, few, countsRefused, rotationFits, orElse}
-use Rattle.entry.specs.Entry.{rowFits}
+use Rattle.panel.specs.Spots.{spot_numbers}
+use Rattle.entry.specs.Check.{divides, few, counts_refused, rotation_fits, or_else}
+use Rattle.entry.specs.Entry.{row_fits}
 
 -- ---- one stage after another
 
 -- a stage that refuses
-pub stops : (a b : ℕ) {x : ℕ} → x ≡ a → (x ≡ 0 → ⊥) → x ≡ orElse a b
-unfolding orElse
+pub stops : (a b : ℕ) {x : ℕ} → x ≡ a → (x ≡ 0 → ⊥) → x ≡ or_else a b
+unfolding or_else
 stops zero b e h = absurd (h e)
 stops (suc a) b e h = e
 
 -- a stage that does not
-pub goes : (a b : ℕ) {x r : ℕ} → x ≡ a → x ≡ 0 → r ≡ b → r ≡ orElse a b
-unfolding orElse
+pub goes : (a b : ℕ) {x r : ℕ} → x ≡ a → x ≡ 0 → r ≡ b → r ≡ or_else a b
+unfolding or_else
 goes zero b e z f = f
 goes (suc a) b e z f = absurd (omega arith)
 
 -- two in turn
-pub in-turn : (a b : ℕ) {x y r : ℕ} → x ≡ a → y ≡ b → r ≡ orElse x y → r ≡ orElse a b
-in-turn a b e f h = h ∙ (λ i. orElse (e i) (f i))
+pub in_turn : (a b : ℕ) {x y r : ℕ} → x ≡ a → y ≡ b → r ≡ or_else x y → r ≡ or_else a b
+in_turn a b e f h = h ∙ (λ i. or_else (e i) (f i))
 
 -- neither of two does
-pub both-pass : (a b : ℕ) → orElse a b ≡ 0 → (a ≡ 0) × (b ≡ 0)
-unfolding orElse
-both-pass zero b h = (refl, h)
-both-pass (suc a) b h = absurd (omega arith)
+pub both_pass : (a b : ℕ) → or_else a b ≡ 0 → (a ≡ 0) × (b ≡ 0)
+unfolding or_else
+both_pass zero b h = (refl, h)
+both_pass (suc a) b h = absurd (omega arith)
 
 -- ---- what passes the checks
 
 -- a check that passes, and what comes after it
-pub check-passed : (a : Bool) (x n : ℕ) → 0 < n → cond a x n ≡ 0 → (a ≡ true) × (x ≡ 0)
-check-passed true x n p h = (refl, h)
-check-passed false x n p h = absurd (omega arith)
+pub check_passed : (a : Bool) (x n : ℕ) → 0 < n → cond a x n ≡ 0 → (a ≡ true) × (x ≡ 0)
+check_passed true x n p h = (refl, h)
+check_passed false x n p h = absurd (omega arith)
 
-pub counts-passed : (spots matches directions rounds : ℕ) → countsRefused spots matches directions rounds ≡ 0
-    → (divides spots matches directions ≡ true) × (few (spots / spotNumbers) (matches / 2) (directions / 3) rounds ≡ true)
-unfolding countsRefused
-counts-passed spots matches directions rounds h =
-    let b = few (spots / spotNumbers) (matches / 2) (directions / 3) rounds in
-    let p = check-passed (divides spots matches directions) (cond b 0 6) 5 (omega arith) h in
-    (p.0, (check-passed b 0 6 (omega arith) p.1).0)
+pub counts_passed : (spots matches directions rounds : ℕ) → counts_refused spots matches directions rounds ≡ 0
+    → (divides spots matches directions ≡ true) × (few (spots / spot_numbers) (matches / 2) (directions / 3) rounds ≡ true)
+unfolding counts_refused
+counts_passed spots matches directions rounds h =
+    let b = few (spots / spot_numbers) (matches / 2) (directions / 3) rounds in
+    let p = check_passed (divides spots matches directions) (cond b 0 6) 5 (omega arith) h in
+    (p.0, (check_passed b 0 6 (omega arith) p.1).0)
 
 pub and_left : (a b : Bool) → a && b ≡ true → a ≡ true
 and_left true b h = refl
@@ -59,9 +59,9 @@ pub and_right : (a b : Bool) → a && b ≡ true → b ≡ true
 and_right true b h = h
 and_right false b h = cc
 
-pub few-bounds : (s m d rounds : ℕ) → few s m d rounds ≡ true → (s ≤ 4096) × (m ≤ 4096) × (d ≤ 65536) × (rounds ≤ 64)
+pub few_bounds : (s m d rounds : ℕ) → few s m d rounds ≡ true → (s ≤ 4096) × (m ≤ 4096) × (d ≤ 65536) × (rounds ≤ 64)
 unfolding few
-few-bounds s m d rounds h =
+few_bounds s m d rounds h =
     let a = leb s 4096 in
     let b = leb m 4096 in
     let e = leb d 65536 in
@@ -74,29 +74,29 @@ few-bounds s m d rounds h =
     )
 
 -- what the names are checked with
-pub counted-bounds : (spots matches directions rounds : ℕ) {x : ℕ} → x ≡ countsRefused spots matches directions rounds → x ≡ 0
-    → (spots / spotNumbers ≤ 4096) × (matches / 2 ≤ 4096) × (directions / 3 ≤ 65536)
-counted-bounds spots matches directions rounds f z =
-    let b = few-bounds (spots / spotNumbers) (matches / 2) (directions / 3) rounds (counts-passed spots matches directions rounds (sym f ∙ z)).1 in
+pub counted_bounds : (spots matches directions rounds : ℕ) {x : ℕ} → x ≡ counts_refused spots matches directions rounds → x ≡ 0
+    → (spots / spot_numbers ≤ 4096) × (matches / 2 ≤ 4096) × (directions / 3 ≤ 65536)
+counted_bounds spots matches directions rounds f z =
+    let b = few_bounds (spots / spot_numbers) (matches / 2) (directions / 3) rounds (counts_passed spots matches directions rounds (sym f ∙ z)).1 in
     (b.0, b.1, b.2)
 
 -- ---- the rotation, row by row
 
-module _ (m : List (List Float)) {x : Bool} (ex : x ≡ rowFits (row m 0)) where
-  pub first_out : x ≡ false → rotationFits m ≡ false
-  unfolding rowFits rotationFits
-  first_out p = let a : rowFits (row m 0) ≡ false = sym ex ∙ p in rw a
+module _ (m : List (List Float)) {x : Bool} (ex : x ≡ row_fits (row m 0)) where
+  pub first_out : x ≡ false → rotation_fits m ≡ false
+  unfolding row_fits rotation_fits
+  first_out p = let a : row_fits (row m 0) ≡ false = sym ex ∙ p in rw a
 
-  pub second-out : x ≡ true → {y : Bool} → y ≡ rowFits (row m 1) → y ≡ false → rotationFits m ≡ false
-  unfolding rowFits rotationFits
-  second-out p ey q =
-      let a : rowFits (row m 0) ≡ true = sym ex ∙ p in
-      let b : rowFits (row m 1) ≡ false = sym ey ∙ q in
+  pub second_out : x ≡ true → {y : Bool} → y ≡ row_fits (row m 1) → y ≡ false → rotation_fits m ≡ false
+  unfolding row_fits rotation_fits
+  second_out p ey q =
+      let a : row_fits (row m 0) ≡ true = sym ex ∙ p in
+      let b : row_fits (row m 1) ≡ false = sym ey ∙ q in
       rw (a, b)
 
-  pub third : x ≡ true → {y z : Bool} → y ≡ rowFits (row m 1) → y ≡ true → z ≡ rowFits (row m 2) → rotationFits m ≡ z
-  unfolding rowFits rotationFits
+  pub third : x ≡ true → {y z : Bool} → y ≡ row_fits (row m 1) → y ≡ true → z ≡ row_fits (row m 2) → rotation_fits m ≡ z
+  unfolding row_fits rotation_fits
   third p ey q ez =
-      let a : rowFits (row m 0) ≡ true = sym ex ∙ p in
-      let b : rowFits (row m 1) ≡ true = sym ey ∙ q in
+      let a : row_fits (row m 0) ≡ true = sym ex ∙ p in
+      let b : row_fits (row m 1) ≡ true = sym ey ∙ q in
       rw (a, b) (sym ez)

@@ -6,64 +6,64 @@ use native.Mathlib.Numerals.{add-one}
 use native.Mathlib.Omega.{arith}
 use lib.Ieee.{Float, binary64, neg, of_bits}
 use Rattle.rounding.specs.Arith.{◌⊕◌, ◌⊗◌, zero64, one64}
-use Rattle.rounding.specs.Methods.{maxF, clampF}
+use Rattle.rounding.specs.Methods.{max_f, clamp_f}
 use Rattle.rounding.specs.Root.{root}
-use Rattle.rounding.proofs.RootMax.{Plain, root_max, plain-max, plain-squares}
+use Rattle.rounding.proofs.RootMax.{Plain, root_max, plain_max, plain_squares}
 use Rattle.angles.specs.SinCos.{sin, cos}
 use Rattle.angles.specs.Inverse.{asin, atan2}
-use Rattle.solve.specs.Constants.{minusOne}
+use Rattle.solve.specs.Constants.{minus_one}
 use Rattle.solve.specs.Vector.{at, row, entry, dot}
 use Rattle.project.specs.Camera.{east, north}
-use Rattle.panel.specs.Spots.{spotAt}
+use Rattle.panel.specs.Spots.{spot_at}
 use Rattle.fit.specs.declared.Pose.{Pose}
 use Rattle.panel.specs.declared.Spot.{Spot}
-use Rattle.entry.specs.Fixed.{distance, farthest, startPoseOf}
+use Rattle.entry.specs.Fixed.{distance, farthest, start_pose_of}
 
 -- ---- the greatest distance
 
 -- the greatest square so far, and the distances of the spots from i on
 module _ (spots : List Float) (n i : ℕ) (square : Float) (plain : Plain binary64 square) {all : Float} (left : farthest spots i (n - i) (root binary64 square) ≡ all) where
-  pub far-next : i < n → {s : Spot} {next : Float} → s ≡ spotAt spots i → next ≡ maxF square (s.px ⊗ s.px ⊕ s.py ⊗ s.py)
+  pub far_next : i < n → {s : Spot} {next : Float} → s ≡ spot_at spots i → next ≡ max_f square (s.px ⊗ s.px ⊕ s.py ⊗ s.py)
       → Plain binary64 next × (farthest spots (i + 1) (n - (i + 1)) (root binary64 next) ≡ all)
   unfolding farthest distance
-  far-next h {s} {next} es en =
+  far_next h {s} {next} es en =
       let q = s.px ⊗ s.px ⊕ s.py ⊗ s.py in
-      let P : Plain binary64 q = plain-squares binary64 s.px s.py in
+      let P : Plain binary64 q = plain_squares binary64 s.px s.py in
       let far = root binary64 square in
       let e : n - i ≡ suc (n - (i + 1)) = omega arith in
-      let t : farthest spots i (n - i) far ≡ farthest spots (suc i) (n - (i + 1)) (maxF far (distance (spotAt spots i))) = ap (λ (k : ℕ). farthest spots i k far) e in
-      let m : maxF far (distance (spotAt spots i)) ≡ root binary64 next =
-      ap (λ (s : Spot). maxF far (distance s)) (sym es) ∙ root_max binary64 square q plain P ∙ ap (root binary64) (sym en) in
+      let t : farthest spots i (n - i) far ≡ farthest spots (suc i) (n - (i + 1)) (max_f far (distance (spot_at spots i))) = ap (λ (k : ℕ). farthest spots i k far) e in
+      let m : max_f far (distance (spot_at spots i)) ≡ root binary64 next =
+      ap (λ (s : Spot). max_f far (distance s)) (sym es) ∙ root_max binary64 square q plain P ∙ ap (root binary64) (sym en) in
       let b : i + 1 ≡ suc i = add-one i in (
-        subst (Plain binary64) (sym en) (plain-max binary64 square q plain P),
+        subst (Plain binary64) (sym en) (plain_max binary64 square q plain P),
         ap (λ (j : ℕ). farthest spots j (n - (i + 1)) (root binary64 next)) b ∙ ap (farthest spots (suc i) (n - (i + 1))) (sym m) ∙ sym t ∙ left,
       )
 
-  pub far-done : n ≤ i → {r : Float} → r ≡ root binary64 square → r ≡ all
+  pub far_done : n ≤ i → {r : Float} → r ≡ root binary64 square → r ≡ all
   unfolding farthest
-  far-done h {r} er =
+  far_done h {r} er =
       let e : n - i ≡ 0 = omega arith in
       let s : farthest spots i (n - i) (root binary64 square) ≡ root binary64 square = ap (λ (k : ℕ). farthest spots i k (root binary64 square)) e in
       er ∙ sym s ∙ left
 
 -- ---- the axes
 
-pub east-of : (ra : Float) {s c : Float} → s ≡ sin ra → c ≡ cos ra → neg s ∷ c ∷ zero64 ∷ [] ≡ east ra
+pub east_of : (ra : Float) {s c : Float} → s ≡ sin ra → c ≡ cos ra → neg s ∷ c ∷ zero64 ∷ [] ≡ east ra
 unfolding east
-east-of ra {s} {c} p q = ap (λ (x : Float). neg x ∷ c ∷ zero64 ∷ []) p ∙ ap (λ (x : Float). neg (sin ra) ∷ x ∷ zero64 ∷ []) q
+east_of ra {s} {c} p q = ap (λ (x : Float). neg x ∷ c ∷ zero64 ∷ []) p ∙ ap (λ (x : Float). neg (sin ra) ∷ x ∷ zero64 ∷ []) q
 
-northFrom : Float → Float → Float → Float → List Float
-northFrom sa ca sd cd = neg sd ⊗ ca ∷ neg sd ⊗ sa ∷ cd ∷ []
+north_from : Float → Float → Float → Float → List Float
+north_from sa ca sd cd = neg sd ⊗ ca ∷ neg sd ⊗ sa ∷ cd ∷ []
 
-north-made : (ra dec : Float) → northFrom (sin ra) (cos ra) (sin dec) (cos dec) ≡ north ra dec
-unfolding north northFrom
-north-made ra dec = refl
+north_made : (ra dec : Float) → north_from (sin ra) (cos ra) (sin dec) (cos dec) ≡ north ra dec
+unfolding north north_from
+north_made ra dec = refl
 
-pub north-of : (ra dec : Float) {sa ca sd cd : Float} → sa ≡ sin ra → ca ≡ cos ra → sd ≡ sin dec → cd ≡ cos dec → neg sd ⊗ ca ∷ neg sd ⊗ sa ∷ cd ∷ [] ≡ north ra dec
-unfolding northFrom
-north-of ra dec {sa} {ca} {sd} {cd} p q r s =
-    let a : northFrom sa ca sd cd ≡ northFrom (sin ra) (cos ra) (sin dec) (cos dec) = cc in
-    a ∙ north-made ra dec
+pub north_of : (ra dec : Float) {sa ca sd cd : Float} → sa ≡ sin ra → ca ≡ cos ra → sd ≡ sin dec → cd ≡ cos dec → neg sd ⊗ ca ∷ neg sd ⊗ sa ∷ cd ∷ [] ≡ north ra dec
+unfolding north_from
+north_of ra dec {sa} {ca} {sd} {cd} p q r s =
+    let a : north_from sa ca sd cd ≡ north_from (sin ra) (cos ra) (sin dec) (cos dec) = cc in
+    a ∙ north_made ra dec
 
 -- ---- the pose
 
@@ -75,32 +75,32 @@ made m scale ra dec = record {
   scale = scale;
 }
 
-start-made : (m : List (List Float)) (scale : Float)
-    → made m scale (atan2 (entry m 2 1) (entry m 2 0)) (asin (clampF (entry m 2 2) minusOne one64)) ≡ startPoseOf m scale
-unfolding startPoseOf made
-start-made m scale = refl
+start_made : (m : List (List Float)) (scale : Float)
+    → made m scale (atan2 (entry m 2 1) (entry m 2 0)) (asin (clamp_f (entry m 2 2) minus_one one64)) ≡ start_pose_of m scale
+unfolding start_pose_of made
+start_made m scale = refl
 
-minus_one : neg one64 ≡ minusOne
+minus_one_lem : neg one64 ≡ minus_one
 unfolding of_bits neg
-minus_one = refl
+minus_one_lem = refl
 
 -- a row of f32 numbers, widened, is the same row
-widened-dot : {x : List Float} (v n : List Float) → x ≡ at v 0 ∷ at v 1 ∷ at v 2 ∷ [] → dot x n ≡ dot v n
+widened_dot : {x : List Float} (v n : List Float) → x ≡ at v 0 ∷ at v 1 ∷ at v 2 ∷ [] → dot x n ≡ dot v n
 unfolding dot
-widened-dot v n e = ap (λ (w : List Float). dot w n) e
+widened_dot v n e = ap (λ (w : List Float). dot w n) e
 
 module _ (m : List (List Float)) {z x : List Float} (ez : z ≡ entry m 2 0 ∷ entry m 2 1 ∷ entry m 2 2 ∷ []) (ex : x ≡ entry m 0 0 ∷ entry m 0 1 ∷ entry m 0 2 ∷ []) where
-  pub posed : {ra held dec : Float} → ra ≡ atan2 (at z 1) (at z 0) → held ≡ clampF (at z 2) (neg one64) one64 → dec ≡ asin held
+  pub posed : {ra held dec : Float} → ra ≡ atan2 (at z 1) (at z 0) → held ≡ clamp_f (at z 2) (neg one64) one64 → dec ≡ asin held
       → {n e : List Float} → n ≡ north ra dec → e ≡ east ra
       → {a b theta : Float} → a ≡ dot x n → b ≡ dot x e → theta ≡ atan2 a b
-      → {scale : Float} → ◌≡◌ {A = Pose} (record { theta = theta; ra = ra; dec = dec; scale = scale }) (startPoseOf m scale)
+      → {scale : Float} → ◌≡◌ {A = Pose} (record { theta = theta; ra = ra; dec = dec; scale = scale }) (start_pose_of m scale)
   unfolding made
   posed {ra} {held} {dec} er eh ed {n} {e} en ee {a} {b} {theta} ea eb et {scale} =
       let r : ra ≡ atan2 (entry m 2 1) (entry m 2 0) = er ∙ ap (λ (v : List Float). atan2 (at v 1) (at v 0)) ez in
-      let h : held ≡ clampF (entry m 2 2) minusOne one64 = eh ∙ (ap (λ (v : List Float). clampF (at v 2) (neg one64) one64) ez ∙ ap (λ (y : Float). clampF (entry m 2 2) y one64) minus_one) in
-      let wa : dot x n ≡ dot (row m 0) n = widened-dot (row m 0) n ex in
-      let wb : dot x e ≡ dot (row m 0) e = widened-dot (row m 0) e ex in
+      let h : held ≡ clamp_f (entry m 2 2) minus_one one64 = eh ∙ (ap (λ (v : List Float). clamp_f (at v 2) (neg one64) one64) ez ∙ ap (λ (y : Float). clamp_f (entry m 2 2) y one64) minus_one_lem) in
+      let wa : dot x n ≡ dot (row m 0) n = widened_dot (row m 0) n ex in
+      let wb : dot x e ≡ dot (row m 0) e = widened_dot (row m 0) e ex in
       let t : theta ≡ atan2 (dot (row m 0) (north ra dec)) (dot (row m 0) (east ra)) = cc in
       let p : ◌≡◌ {A = Pose} (record { theta = theta; ra = ra; dec = dec; scale = scale }) (made m scale ra dec) = ap (λ (y : Float). record { theta = y; ra = ra; dec = dec; scale = scale }) t in
-      let q : made m scale ra dec ≡ made m scale (atan2 (entry m 2 1) (entry m 2 0)) (asin (clampF (entry m 2 2) minusOne one64)) = cc in
-      p ∙ (q ∙ start-made m scale)
+      let q : made m scale ra dec ≡ made m scale (atan2 (entry m 2 1) (entry m 2 0)) (asin (clamp_f (entry m 2 2) minus_one one64)) = cc in
+      p ∙ (q ∙ start_made m scale)

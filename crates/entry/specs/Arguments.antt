@@ -1,6 +1,6 @@
 -- The arguments of a refinement call. Definitions only. Assumes nothing.
 use Rattle.std.specs.Prelude.{ℕ, ◌+◌, ◌*◌, ◌/◌, min, max, Bool, List, length, Float}
-use Rattle.panel.specs.Spots.{spotNumbers}
+use Rattle.panel.specs.Spots.{spot_numbers}
 
 -- "Lists written to are all that the call may write, here the result, working and candidate lists": the working lists of whole numbers and of
 -- floats, the distances and the indices of the candidate list, and the result list.
@@ -31,29 +31,29 @@ pub record Call : Type 0 where
   pub given : Given
 
 -- How many spots, starting matches and directions a call has.
-abbrev pub spotCount : Call → ℕ
-spotCount c = length c.spots / spotNumbers
+abbrev pub spot_count : Call → ℕ
+spot_count c = length c.spots / spot_numbers
 
-abbrev pub matchCount : Call → ℕ
-matchCount c = length c.given.matches / 2
+abbrev pub match_count : Call → ℕ
+match_count c = length c.given.matches / 2
 
-abbrev pub directionCount : Call → ℕ
-directionCount c = length c.directions / 3
+abbrev pub direction_count : Call → ℕ
+direction_count c = length c.directions / 3
 
 -- 01, refusal 11: the places that a working list must have, "16 × (spots + matches + directions)", for so many of each.
-abbrev pub workFor : ℕ → ℕ → ℕ → ℕ
-workFor s m d = 16 * (s + m + d)
+abbrev pub work_for : ℕ → ℕ → ℕ → ℕ
+work_for s m d = 16 * (s + m + d)
 
 -- "or the result list than twice the larger of the match count and min(spots, matching limit)"
-abbrev pub resultFor : ℕ → ℕ → ℕ → ℕ
-resultFor s m limit = 2 * max m (min s limit)
+abbrev pub result_for : ℕ → ℕ → ℕ → ℕ
+result_for s m limit = 2 * max m (min s limit)
 
 -- The same of a call: all that it has together, the places of a working list, those of the result list.
 abbrev pub total : Call → ℕ
-total c = spotCount c + matchCount c + directionCount c
+total c = spot_count c + match_count c + direction_count c
 
-abbrev pub workPlaces : Call → ℕ
-workPlaces c = workFor (spotCount c) (matchCount c) (directionCount c)
+abbrev pub work_places : Call → ℕ
+work_places c = work_for (spot_count c) (match_count c) (direction_count c)
 
-abbrev pub resultPlaces : Call → ℕ
-resultPlaces c = resultFor (spotCount c) (matchCount c) c.given.limit
+abbrev pub result_places : Call → ℕ
+result_places c = result_for (spot_count c) (match_count c) c.given.limit

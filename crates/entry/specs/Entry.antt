@@ -2,21 +2,21 @@
 use Rattle.std.specs.Prelude.{Bool, cond, ◌&&◌, List, Float}
 use Rattle.solve.specs.Vector.{at}
 use Rattle.panel.specs.declared.Spot.{Spot}
-use Rattle.entry.specs.Check.{lawfulPlace, lawfulWeight, lawfulComponent}
+use Rattle.entry.specs.Check.{lawful_place, lawful_weight, lawful_component}
 use Rattle.entry.specs.Fixed.{Fixed}
 use Rattle.entry.specs.declared.Settings.{Settings}
 
 -- 17 of a spot, or else 9: the code makes both tests of the spots by one loop.
-abbrev pub spotTest : Bool → Spot → Bool
-spotTest weight s = cond weight (lawfulWeight s) (lawfulPlace s)
+abbrev pub spot_test : Bool → Spot → Bool
+spot_test weight s = cond weight (lawful_weight s) (lawful_place s)
 
 -- 9, of a row of the rotation: the code looks at the rotation row by row.
-unfoldable pub rowFits : List Float → Bool
-rowFits v = lawfulComponent (at v 0) && lawfulComponent (at v 1) && lawfulComponent (at v 2)
+unfoldable pub row_fits : List Float → Bool
+row_fits v = lawful_component (at v 0) && lawful_component (at v 1) && lawful_component (at v 2)
 
 -- What the code's settings mean.
-abbrev pub fixedOf : Settings → Fixed
-fixedOf k = record {
+abbrev pub fixed_of : Settings → Fixed
+fixed_of k = record {
   scale = k.scale;
   mirror = k.mirror;
   radius = k.radius;

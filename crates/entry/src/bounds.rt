@@ -1,7 +1,7 @@
 // The bounds of refusals 6 to 9, 14 and 17, each a constant of the type that it bounds. Ranges include both ends; neither a NaN nor an infinity lies in one.
 ghost use Rattle.std.specs.Prelude.{◌≡◌, leb};
 ghost use Rattle.rounding.specs.Arith.{one64};
-ghost use Rattle.entry.specs.Check.{between, least, leastCut, mostCut, leastWeight, mostWeight, lawfulCoordinate, lawfulComponent, mostSpots, mostMatches, mostDirections, mostRounds};
+ghost use Rattle.entry.specs.Check.{between, least, least_cut, most_cut, least_weight, most_weight, lawful_coordinate, lawful_component, most_spots, most_matches, most_directions, most_rounds};
 
 // How many spots a call has.
 #[derive(Drop)]
@@ -11,7 +11,7 @@ impl Spots {
     pub const MOST: usize = 4096;
 
     pub fn is_lawful(self) -> bool
-        ensures { result ≡ leb self.0 mostSpots }
+        ensures { result ≡ leb self.0 most_spots }
     {
         self.0 <= Spots::MOST
     }
@@ -25,7 +25,7 @@ impl Matches {
     pub const MOST: usize = 4096;
 
     pub fn is_lawful(self) -> bool
-        ensures { result ≡ leb self.0 mostMatches }
+        ensures { result ≡ leb self.0 most_matches }
     {
         self.0 <= Matches::MOST
     }
@@ -39,7 +39,7 @@ impl Directions {
     pub const MOST: usize = 65536;
 
     pub fn is_lawful(self) -> bool
-        ensures { result ≡ leb self.0 mostDirections }
+        ensures { result ≡ leb self.0 most_directions }
     {
         self.0 <= Directions::MOST
     }
@@ -53,7 +53,7 @@ impl Rounds {
     pub const MOST: usize = 64;
 
     pub fn is_lawful(self) -> bool
-        ensures { result ≡ leb self.0 mostRounds }
+        ensures { result ≡ leb self.0 most_rounds }
     {
         self.0 <= Rounds::MOST
     }
@@ -107,7 +107,7 @@ impl Cut {
     pub const MOST: f64 = 0.5;
 
     pub fn is_lawful(self) -> bool
-        ensures { result ≡ between leastCut self.0 mostCut }
+        ensures { result ≡ between least_cut self.0 most_cut }
     {
         if Cut::LEAST <= self.0 {
             return self.0 <= Cut::MOST;
@@ -126,7 +126,7 @@ impl Coordinate {
     pub const MOST: f64 = 1048576.0;
 
     pub fn is_lawful(self) -> bool
-        ensures { result ≡ lawfulCoordinate self.0 }
+        ensures { result ≡ lawful_coordinate self.0 }
     {
         if Coordinate::LEAST <= self.0 {
             return self.0 <= Coordinate::MOST;
@@ -145,7 +145,7 @@ impl Weight {
     pub const MOST: f64 = 1024.0;
 
     pub fn is_lawful(self) -> bool
-        ensures { result ≡ between leastWeight self.0 mostWeight }
+        ensures { result ≡ between least_weight self.0 most_weight }
     {
         if Weight::LEAST <= self.0 {
             return self.0 <= Weight::MOST;
@@ -164,7 +164,7 @@ impl Component {
     pub const MOST: f32 = 2.0;
 
     pub fn is_lawful(self) -> bool
-        ensures { result ≡ lawfulComponent self.0 }
+        ensures { result ≡ lawful_component self.0 }
     {
         if Component::LEAST <= self.0 {
             return self.0 <= Component::MOST;

@@ -3,8 +3,8 @@ ghost use Rattle.std.specs.Prelude.{◌≡◌, [], ◌∷◌, ◌/◌, length};
 ghost use Rattle.rounding.specs.Arith.{zero64};
 ghost use Rattle.solve.specs.Vector.{at};
 ghost use Rattle.project.specs.Camera.{east, north};
-ghost use Rattle.entry.specs.Fixed.{farthest, fixedFrom, startPoseOf, requeryMargin, searchRadius, requeryCos, radiusPx, pruneR, marginPx, keepR, thetaMargin};
-ghost use Rattle.entry.specs.Entry.{fixedOf};
+ghost use Rattle.entry.specs.Fixed.{farthest, fixed_from, start_pose_of, requery_margin, search_radius, requery_cos, radius_px, prune_r, margin_px, keep_r, theta_margin};
+ghost use Rattle.entry.specs.Entry.{fixed_of};
 
 use crate::Settings;
 use angles::{asin, atan2, cos, sin};
@@ -40,7 +40,7 @@ pub fn settings_of(
     distances: usize,
     indices: usize,
 ) -> Settings
-    ensures { fixedOf result ≡ fixedFrom spots.now directions scale mirror radius cut limit distances indices }
+    ensures { fixed_of result ≡ fixed_from spots.now directions scale mirror radius cut limit distances indices }
 {
     // Those beyond the matching limit count too.
     let far = farthest_of(spots, spots.len() / SPOT_NUMBERS);
@@ -91,7 +91,7 @@ fn widened(v: [f32; 3]) -> [f64; 3]
 
 // From the rotation's third row, the boresight, and its first, the camera's x axis.
 pub fn start_pose(rotation: [[f32; 3]; 3], scale: f64) -> Pose
-    ensures { result ≡ startPoseOf rotation scale }
+    ensures { result ≡ start_pose_of rotation scale }
 {
     let z = widened(rotation[2]);
     let x = widened(rotation[0]);
@@ -109,49 +109,49 @@ pub fn start_pose(rotation: [[f32; 3]; 3], scale: f64) -> Pose
 // ---- the radii of the re-association, the same in every round
 
 pub fn requery_margin(k: Settings) -> f64
-    ensures { result ≡ requeryMargin (fixedOf k) }
+    ensures { result ≡ requery_margin (fixed_of k) }
 {
     k.radius * 2.0
 }
 
 pub fn search_radius(k: Settings) -> f64
-    ensures { result ≡ searchRadius (fixedOf k) }
+    ensures { result ≡ search_radius (fixed_of k) }
 {
     max(k.scale * k.far * 1.5, k.radius * 2.0)
 }
 
 pub fn requery_cos(k: Settings) -> f64
-    ensures { result ≡ requeryCos (fixedOf k) }
+    ensures { result ≡ requery_cos (fixed_of k) }
 {
     cos(requery_margin(k))
 }
 
 pub fn radius_px(k: Settings) -> f64
-    ensures { result ≡ radiusPx (fixedOf k) }
+    ensures { result ≡ radius_px (fixed_of k) }
 {
     k.radius / k.scale
 }
 
 pub fn prune_r(k: Settings) -> f64
-    ensures { result ≡ pruneR (fixedOf k) }
+    ensures { result ≡ prune_r (fixed_of k) }
 {
     k.far + radius_px(k)
 }
 
 pub fn margin_px(k: Settings) -> f64
-    ensures { result ≡ marginPx (fixedOf k) }
+    ensures { result ≡ margin_px (fixed_of k) }
 {
     requery_margin(k) / k.scale
 }
 
 pub fn keep_r(k: Settings) -> f64
-    ensures { result ≡ keepR (fixedOf k) }
+    ensures { result ≡ keep_r (fixed_of k) }
 {
     prune_r(k) + 3.0 * margin_px(k)
 }
 
 pub fn theta_margin(k: Settings) -> f64
-    ensures { result ≡ thetaMargin (fixedOf k) }
+    ensures { result ≡ theta_margin (fixed_of k) }
 {
     margin_px(k) / keep_r(k)
 }

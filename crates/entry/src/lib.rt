@@ -17,7 +17,7 @@ pub use head::{
 pub use refusals::refusal_of;
 
 // All that the rounds read beside spots, directions and their state, of `count` directions. No code reads `capacity`, since the matcher measures
-// its own lists: it stands here so that the settings mean a `Fixed` (`fixedOf` in specs/Entry.antt).
+// its own lists: it stands here so that the settings mean a `Fixed` (`fixed_of` in specs/Entry.antt).
 #[derive(Clone, Copy)]
 pub struct Settings {
     pub scale: f64,

@@ -1,8 +1,8 @@
 // The checks on entry, refusals 5 to 11, 14 and 17, in stages by what they look at.
 ghost use Rattle.std.specs.Prelude.{◌≡◌, ◌/◌, ◌≤◌, max, length};
-ghost use Rattle.entry.specs.Check.{lawfulComponent, everySpot, every, divides, few, rotationFits, numbersFit, named, long};
-ghost use Rattle.entry.specs.Check.{countsRefused, measuresRefused, numbersRefused, weightsRefused, namesRefused, orElse, refusalOf};
-ghost use Rattle.entry.specs.Entry.{spotTest, rowFits};
+ghost use Rattle.entry.specs.Check.{lawful_component, every_spot, every, divides, few, rotation_fits, numbers_fit, named, long};
+ghost use Rattle.entry.specs.Check.{counts_refused, measures_refused, numbers_refused, weights_refused, names_refused, or_else, refusal_of};
+ghost use Rattle.entry.specs.Entry.{spot_test, row_fits};
 
 use crate::bounds::{
     Component, Coordinate, Cut, Directions, Matches, Radius, Rounds, Scale, Spots, Weight,
@@ -44,7 +44,7 @@ fn are_few(spots: usize, matches: usize, directions: usize, rounds: usize) -> bo
 
 // Whether a spot's weight is within its range, or else both of its coordinates.
 fn spot_fits(s: Spot, weight: bool) -> bool
-    ensures { result ≡ spotTest weight s }
+    ensures { result ≡ spot_test weight s }
 {
     if weight {
         return Weight(s.weight).is_lawful();
@@ -57,7 +57,7 @@ fn spot_fits(s: Spot, weight: bool) -> bool
 
 // The same of the first n spots.
 fn spots_fit(spots: &[f64], n: usize, weight: bool) -> bool
-    ensures { result ≡ everySpot (spotTest weight) spots.now 0 n }
+    ensures { result ≡ every_spot (spot_test weight) spots.now 0 n }
 {
     let mut i: usize = 0;
     while i < n {
@@ -70,7 +70,7 @@ fn spots_fit(spots: &[f64], n: usize, weight: bool) -> bool
 }
 
 fn components_fit(directions: &[f32]) -> bool
-    ensures { result ≡ every lawfulComponent directions.now }
+    ensures { result ≡ every lawful_component directions.now }
 {
     let mut i: usize = 0;
     while i < directions.len() {
@@ -83,7 +83,7 @@ fn components_fit(directions: &[f32]) -> bool
 }
 
 fn row_fits(row: [f32; 3]) -> bool
-    ensures { result ≡ rowFits row }
+    ensures { result ≡ row_fits row }
 {
     if Component(row[0]).is_lawful() {
         if Component(row[1]).is_lawful() {
@@ -94,7 +94,7 @@ fn row_fits(row: [f32; 3]) -> bool
 }
 
 fn rotation_fits(rotation: [[f32; 3]; 3]) -> bool
-    ensures { result ≡ rotationFits rotation }
+    ensures { result ≡ rotation_fits rotation }
 {
     if row_fits(rotation[0]) {
         if row_fits(rotation[1]) {
@@ -106,7 +106,7 @@ fn rotation_fits(rotation: [[f32; 3]; 3]) -> bool
 
 // 9, every number but the weights.
 fn numbers_fit(spots: &[f64], directions: &[f32], rotation: [[f32; 3]; 3]) -> bool
-    ensures { result ≡ numbersFit spots.now directions.now rotation }
+    ensures { result ≡ numbers_fit spots.now directions.now rotation }
 {
     if spots_fit(spots, spots.len() / SPOT_NUMBERS, false) {
         if components_fit(directions) {
@@ -159,7 +159,7 @@ fn are_long(
 
 // 5 and 6, from the lists' lengths.
 fn counts(spots: usize, matches: usize, directions: usize, rounds: usize) -> usize
-    ensures { result ≡ countsRefused spots matches directions rounds }
+    ensures { result ≡ counts_refused spots matches directions rounds }
 {
     if !divides(spots, matches, directions) {
         return 5;
@@ -172,7 +172,7 @@ fn counts(spots: usize, matches: usize, directions: usize, rounds: usize) -> usi
 
 // 7, 8 and 14.
 fn measures(scale: f64, radius: f32, cut: f64) -> usize
-    ensures { result ≡ measuresRefused scale radius cut }
+    ensures { result ≡ measures_refused scale radius cut }
 {
     if !Scale(scale).is_lawful() {
         return 7;
@@ -188,7 +188,7 @@ fn measures(scale: f64, radius: f32, cut: f64) -> usize
 
 // 9.
 fn numerals(spots: &[f64], directions: &[f32], rotation: [[f32; 3]; 3]) -> usize
-    ensures { result ≡ numbersRefused spots.now directions.now rotation }
+    ensures { result ≡ numbers_refused spots.now directions.now rotation }
 {
     if numbers_fit(spots, directions, rotation) {
         return 0;
@@ -198,7 +198,7 @@ fn numerals(spots: &[f64], directions: &[f32], rotation: [[f32; 3]; 3]) -> usize
 
 // 17.
 fn weights(spots: &[f64]) -> usize
-    ensures { result ≡ weightsRefused spots.now }
+    ensures { result ≡ weights_refused spots.now }
 {
     if spots_fit(spots, spots.len() / SPOT_NUMBERS, true) {
         return 0;
@@ -217,7 +217,7 @@ fn names(
     result_list: usize,
 ) -> usize
     requires { (spots ≤ 4096) × (length matches.now / 2 ≤ 4096) × (directions ≤ 65536) }
-    ensures { result ≡ namesRefused matches.now spots directions limit numbers floats result_list }
+    ensures { result ≡ names_refused matches.now spots directions limit numbers floats result_list }
 {
     if !are_named(matches, spots, directions) {
         return 10;
@@ -238,7 +238,7 @@ fn names(
 
 // What the first of two stages refuses with, or else the second.
 fn or_else(first: usize, second: usize) -> usize
-    ensures { result ≡ orElse first second }
+    ensures { result ≡ or_else first second }
 {
     if first != 0 {
         return first;
@@ -263,7 +263,7 @@ pub fn refusal_of(
     result_list: usize,
 ) -> usize
     ensures { result
-        ≡ refusalOf spots.now matches.now directions.now rotation scale radius cut
+        ≡ refusal_of spots.now matches.now directions.now rotation scale radius cut
         limit rounds numbers floats result_list }
 {
     let by_counts = counts(spots.len(), matches.len(), directions.len(), rounds);

@@ -3,19 +3,19 @@ use Rattle.std.proofs.Common.{◌≡◌, ℕ, Bool, true, false, cond, ltb, List
 use lib.Ieee.{Float}
 use Rattle.pairs.specs.Pairs.{pairs}
 use Rattle.pairs.specs.Candidates.{capacity}
-use Rattle.matching.specs.Answer.{numberOf, countOf}
-use Rattle.matching.specs.Merge.{notAfter}
+use Rattle.matching.specs.Answer.{number_of, count_of}
+use Rattle.matching.specs.Merge.{not_after}
 use Rattle.matching.specs.Comparisons.{comparisons}
-use Rattle.matching.specs.Greedy.{Outcome, marks, matchesOf, needed, placed, overfull, greedyUniqueMatches}
+use Rattle.matching.specs.Greedy.{Outcome, marks, matches_of, needed, placed, overfull, greedy_unique_matches}
 use Rattle.matching.specs.Meaning.{Frame}
 use Rattle.matching.specs.declared.Matched.{Matched}
 use Rattle.matching.specs.declared.Matched.TheVariants.{Matches, TooMany, Short}
 use Rattle.matching.specs.Meant.{HandedBack}
-use Rattle.matching.proofs.Calls.{call-meant}
+use Rattle.matching.proofs.Calls.{call_meant}
 use Rattle.exports.specs.Matches.{ExportedMatchesMeant}
 
 -- an answer whose number is 0 is one of so many matches
-matched : (a : Matched) → 0 ≡ numberOf a → (n : ℕ) × (a ≡ Matches n) × (countOf a ≡ n)
+matched : (a : Matched) → 0 ≡ number_of a → (n : ℕ) × (a ≡ Matches n) × (count_of a ≡ n)
 matched (Matches n) h = (n, refl, refl)
 matched TooMany h = absurd (omega (arith, h))
 matched Short h = absurd (omega (arith, h))
@@ -23,34 +23,34 @@ matched Short h = absurd (omega (arith, h))
 -- a call that answers matches has put all of its pairs in order
 module _ (f : Frame) (distances : List Float) (indices work : List ℕ) where
   abbrev o : Outcome
-  o = greedyUniqueMatches f.points f.limit f.predicted f.radius-sq distances indices work
+  o = greedy_unique_matches f.points f.limit f.predicted f.radius_sq distances indices work
 
-  compared : (n : ℕ) → o.answer ≡ Matches n → o.comparisons ≡ comparisons notAfter (pairs f.points f.limit f.predicted f.radius-sq)
-  unfolding greedyUniqueMatches placed overfull
+  compared : (n : ℕ) → o.answer ≡ Matches n → o.comparisons ≡ comparisons not_after (pairs f.points f.limit f.predicted f.radius_sq)
+  unfolding greedy_unique_matches placed overfull
   compared n h =
       by (ltb (length work) (needed f.points f.limit f.predicted))
-      (ltb (capacity distances indices) (length (pairs f.points f.limit f.predicted f.radius-sq))) h
+      (ltb (capacity distances indices) (length (pairs f.points f.limit f.predicted f.radius_sq))) h
     where
       shorter : Outcome
       shorter = record { answer = Short; comparisons = 0; distances = distances; indices = indices; work = work }
 
       all : Outcome
       all =
-          placed (marks f.points f.limit f.predicted) (length (pairs f.points f.limit f.predicted f.radius-sq))
-          (comparisons notAfter (pairs f.points f.limit f.predicted f.radius-sq))
-          (matchesOf f.points f.limit f.predicted f.radius-sq) distances indices work
+          placed (marks f.points f.limit f.predicted) (length (pairs f.points f.limit f.predicted f.radius_sq))
+          (comparisons not_after (pairs f.points f.limit f.predicted f.radius_sq))
+          (matches_of f.points f.limit f.predicted f.radius_sq) distances indices work
 
       by : (s t : Bool) → (cond s shorter (cond t (overfull distances indices work) all)).answer ≡ Matches n
           → (cond s shorter (cond t (overfull distances indices work) all)).comparisons
-          ≡ comparisons notAfter (pairs f.points f.limit f.predicted f.radius-sq)
+          ≡ comparisons not_after (pairs f.points f.limit f.predicted f.radius_sq)
       by true t e = cc
       by false true e = cc
       by false false e = refl
 
-pub exported-matches-meant : ExportedMatchesMeant
-exported-matches-meant f r d d' ix w ix' w' counts counts' x zero =
+pub exported_matches_meant : ExportedMatchesMeant
+exported_matches_meant f r d d' ix w ix' w' counts counts' x zero =
     let m = matched (o f d ix w).answer (sym zero ∙ x.number) in (
       m.0,
       x.counted ∙ ap₂ (λ (n c : ℕ). set (set counts 0 n) 1 c) m.2 (compared f d ix w m.0 m.1),
-      subst (HandedBack f m.0 (marks f.points f.limit f.predicted)) (sym x.work-after) (call-meant f d ix w m.0 m.1),
+      subst (HandedBack f m.0 (marks f.points f.limit f.predicted)) (sym x.work_after) (call_meant f d ix w m.0 m.1),
     )

@@ -1,9 +1,9 @@
 -- What the matches that firmware is handed mean. Definitions only; the proof is in proofs/Matches.antt. Assumes nothing.
 use Rattle.std.specs.Prelude.{◌≡◌, ℕ, List, set, Float}
 use Rattle.pairs.specs.Pairs.{pairs}
-use Rattle.matching.specs.Merge.{notAfter}
+use Rattle.matching.specs.Merge.{not_after}
 use Rattle.matching.specs.Comparisons.{comparisons}
-use Rattle.matching.specs.Greedy.{marks, greedyUniqueMatches}
+use Rattle.matching.specs.Greedy.{marks, greedy_unique_matches}
 use Rattle.matching.specs.Meaning.{Frame}
 use Rattle.matching.specs.Meant.{HandedBack}
 use Rattle.exports.specs.Parts.{MatchedTo}
@@ -12,10 +12,10 @@ use Rattle.exports.specs.Parts.{MatchedTo}
 -- `Meaning.antt`, laid flat, of as many matches as it counts; beside that stand the comparisons of its pairs.
 abbrev pub ExportedMatchesMeant : Type 0
 ExportedMatchesMeant =
-    (f : Frame) (r : ℕ) (distances distances-after : List Float) (indices work indices-after work-after counts counts-after : List ℕ)
-    → MatchedTo (greedyUniqueMatches f.points f.limit f.predicted f.radius-sq distances indices work)
-    r distances-after indices-after work-after counts counts-after
+    (f : Frame) (r : ℕ) (distances distances_after : List Float) (indices work indices_after work_after counts counts_after : List ℕ)
+    → MatchedTo (greedy_unique_matches f.points f.limit f.predicted f.radius_sq distances indices work)
+    r distances_after indices_after work_after counts counts_after
     → r ≡ 0
     → (n : ℕ)
-    × (counts-after ≡ set (set counts 0 n) 1 (comparisons notAfter (pairs f.points f.limit f.predicted f.radius-sq)))
-    × HandedBack f n (marks f.points f.limit f.predicted) work-after
+    × (counts_after ≡ set (set counts 0 n) 1 (comparisons not_after (pairs f.points f.limit f.predicted f.radius_sq)))
+    × HandedBack f n (marks f.points f.limit f.predicted) work_after

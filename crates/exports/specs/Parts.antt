@@ -1,19 +1,19 @@
 -- The median and the matcher as numbers and lists, for callers in C. Definitions only. Assumes nothing.
 use Rattle.std.specs.Prelude.{◌≡◌, ℕ, List, set, Float}
 use Rattle.matching.specs.Greedy.{Outcome}
-use Rattle.matching.specs.Answer.{numberOf, countOf}
+use Rattle.matching.specs.Answer.{number_of, count_of}
 use Rattle.stats.specs.declared.MedianSigma.{MedianSigma}
 
 -- Median and sigma in the first two places of a list, as far as it has them.
-abbrev pub twoPlaces : List Float → MedianSigma → List Float
-twoPlaces l s = set (set l 0 s.median) 1 s.sigma
+abbrev pub two_places : List Float → MedianSigma → List Float
+two_places l s = set (set l 0 s.median) 1 s.sigma
 
 -- A call of the matcher: the number handed back, the lists that it was lent, and the counts of matches and of comparisons in the first two places of a
 -- list.
 pub record MatchedTo
-    (o : Outcome) (r : ℕ) (distances : List Float) (indices work counts-before counts-after : List ℕ) : Type 0 where
-  pub number : r ≡ numberOf o.answer
-  pub distances-after : distances ≡ o.distances
-  pub indices-after : indices ≡ o.indices
-  pub work-after : work ≡ o.work
-  pub counted : counts-after ≡ set (set counts-before 0 (countOf o.answer)) 1 o.comparisons
+    (o : Outcome) (r : ℕ) (distances : List Float) (indices work counts_before counts_after : List ℕ) : Type 0 where
+  pub number : r ≡ number_of o.answer
+  pub distances_after : distances ≡ o.distances
+  pub indices_after : indices ≡ o.indices
+  pub work_after : work ≡ o.work
+  pub counted : counts_after ≡ set (set counts_before 0 (count_of o.answer)) 1 o.comparisons

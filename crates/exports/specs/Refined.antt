@@ -7,8 +7,8 @@ use Rattle.wcs_refine.specs.Returned.{returned}
 use Rattle.wcs_refine.specs.declared.WcsRefineResult.{WcsRefineResult}
 
 -- Nine entries by rows; a place that the list lacks is no number.
-abbrev pub rowsOf : List Float → List (List Float)
-rowsOf l =
+abbrev pub rows_of : List Float → List (List Float)
+rows_of l =
     (get_or l 0 nan ∷ get_or l 1 nan ∷ get_or l 2 nan ∷ [])
     ∷ (get_or l 3 nan ∷ get_or l 4 nan ∷ get_or l 5 nan ∷ [])
     ∷ (get_or l 6 nan ∷ get_or l 7 nan ∷ get_or l 8 nan ∷ [])
@@ -30,15 +30,15 @@ values r =
     ∷ []
 
 -- Written from place i on, one after another, as far as the list has the places.
-abbrev pub setFrom : {A : Type 0} → ℕ → List A → List A → List A
-setFrom i [] l = l
-setFrom i (x ∷ xs) l = setFrom (suc i) xs (set l i x)
+abbrev pub set_from : {A : Type 0} → ℕ → List A → List A → List A
+set_from i [] l = l
+set_from i (x ∷ xs) l = set_from (suc i) xs (set l i x)
 
 -- The number handed back, the lists of the call, and the two lists of values.
 pub record RefinedTo
-    (c : Call) (r : ℕ) (lent : Lent) (counts-before counts-after : List ℕ) (values-before values-after : List Float)
+    (c : Call) (r : ℕ) (lent : Lent) (counts_before counts_after : List ℕ) (values_before values_after : List Float)
     : Type 0 where
   pub refusal : r ≡ (returned (outcome c)).result.refusal
   pub lists : lent ≡ (returned (outcome c)).lent
-  pub counted : counts-after ≡ setFrom 0 (counts (returned (outcome c)).result) counts-before
-  pub valued : values-after ≡ setFrom 0 (values (returned (outcome c)).result) values-before
+  pub counted : counts_after ≡ set_from 0 (counts (returned (outcome c)).result) counts_before
+  pub valued : values_after ≡ set_from 0 (values (returned (outcome c)).result) values_before

@@ -3,7 +3,7 @@ use Rattle.std.specs.Prelude.{◌≡◌, ℕ, cond, List, [], ◌∷◌, get_or,
 use Rattle.std.specs.Float.{nan}
 use Rattle.record.specs.Header.{Intake}
 use Rattle.record.specs.declared.Header.{Header}
-use Rattle.exports.specs.Refined.{setFrom}
+use Rattle.exports.specs.Refined.{set_from}
 
 -- The counts of spots, matches and directions, the mirror as 1 or 0, the matching limit, the rounds.
 abbrev pub choices : Header → List ℕ
@@ -23,12 +23,12 @@ entries h =
 
 -- The number handed back, the lists that the record was read into, and the three lists of the header's values.
 pub record TakenTo (i : Intake) (r : ℕ) (spots : List Float) (matches : List ℕ) (directions : List Float)
-    (choices-before choices-after : List ℕ) (measures-before measures-after rotation-before rotation-after : List Float)
+    (choices_before choices_after : List ℕ) (measures_before measures_after rotation_before rotation_after : List Float)
     : Type 0 where
   pub refusal : r ≡ i.header.refusal
-  pub read-spots : spots ≡ i.spots
-  pub read-matches : matches ≡ i.matches
-  pub read-directions : directions ≡ i.directions
-  pub chosen : choices-after ≡ setFrom 0 (choices i.header) choices-before
-  pub measured : measures-after ≡ setFrom 0 (measures i.header) measures-before
-  pub turned : rotation-after ≡ setFrom 0 (entries i.header) rotation-before
+  pub read_spots : spots ≡ i.spots
+  pub read_matches : matches ≡ i.matches
+  pub read_directions : directions ≡ i.directions
+  pub chosen : choices_after ≡ set_from 0 (choices i.header) choices_before
+  pub measured : measures_after ≡ set_from 0 (measures i.header) measures_before
+  pub turned : rotation_after ≡ set_from 0 (entries i.header) rotation_before

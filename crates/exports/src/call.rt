@@ -2,7 +2,7 @@
 ghost use Rattle.std.specs.Prelude.{◌≡◌, [], ◌∷◌, set, get_or};
 ghost use Rattle.std.specs.Float.{nan};
 ghost use Rattle.wcs_refine.specs.Returned.{lists, called};
-ghost use Rattle.exports.specs.Refined.{rowsOf, counts, values, setFrom, RefinedTo};
+ghost use Rattle.exports.specs.Refined.{rows_of, counts, values, set_from, RefinedTo};
 
 use crate::places::put_double;
 use fit::Pose;
@@ -22,7 +22,7 @@ fn row_at(rotation: &[f32], i: usize, j: usize, k: usize) -> [f32; 3]
 
 // Matches, rounds, passes, queries, and the most comparisons of a round.
 fn put_counts(l: &mut [usize], r: WcsRefineResult)
-    ensures { l.new ≡ setFrom 0 (counts r) l.old }
+    ensures { l.new ≡ set_from 0 (counts r) l.old }
 {
     put_number(l, 0, r.matches);
     put_number(l, 1, r.rounds);
@@ -62,7 +62,7 @@ fn put_three(l: &mut [f64], i: usize, j: usize, k: usize, v: [f64; 3])
 
 // Theta, RA, Dec, scale; the matrix by rows; the error; the covariance by rows.
 fn put_values(l: &mut [f64], r: WcsRefineResult)
-    ensures { l.new ≡ setFrom 0 (values r) l.old }
+    ensures { l.new ≡ set_from 0 (values r) l.old }
 {
     let p = r.pose;
     let cd0 = r.cd0;
@@ -103,7 +103,7 @@ pub extern "C" fn raqembu_wcs_refine(
     values: &mut [f64],
 ) -> usize
     ensures { RefinedTo
-        (called spots.now matches.now directions.now (rowsOf rotation.now)
+        (called spots.now matches.now directions.now (rows_of rotation.now)
         scale mirror radius cut limit rounds
         (lists numbers.old floats.old distances.old
         indices.old result_list.old))

@@ -1,8 +1,8 @@
 // The record reader for C and Rust. A list passes as a pointer and a length; the header's values go to three lists.
 ghost use Rattle.std.specs.Prelude.{◌≡◌, ℕ, cond, [], ◌∷◌, set, get_or};
 ghost use Rattle.std.specs.Float.{nan};
-ghost use Rattle.record.specs.Header.{readRecord};
-ghost use Rattle.exports.specs.Refined.{setFrom};
+ghost use Rattle.record.specs.Header.{read_record};
+ghost use Rattle.exports.specs.Refined.{set_from};
 ghost use Rattle.exports.specs.Taken.{choices, measures, entries, TakenTo};
 
 use crate::places::{put_double, put_single};
@@ -27,7 +27,7 @@ fn number_of(mirror: bool) -> usize
 
 // The counts of spots, matches and directions, the mirror as 1 or 0, the matching limit, the rounds.
 fn put_choices(l: &mut [usize], h: Header)
-    ensures { l.new ≡ setFrom 0 (choices h) l.old }
+    ensures { l.new ≡ set_from 0 (choices h) l.old }
 {
     put_number(l, 0, h.spots);
     put_number(l, 1, h.matches);
@@ -39,7 +39,7 @@ fn put_choices(l: &mut [usize], h: Header)
 
 // The scale, the radius as an f64 has it, and the plane cut.
 fn put_measures(l: &mut [f64], h: Header)
-    ensures { l.new ≡ setFrom 0 (measures h) l.old }
+    ensures { l.new ≡ set_from 0 (measures h) l.old }
 {
     put_double(l, 0, h.scale);
     put_double(l, 1, rounding::widen(h.radius));
@@ -47,7 +47,7 @@ fn put_measures(l: &mut [f64], h: Header)
 }
 
 fn put_rotation(l: &mut [f32], h: Header)
-    ensures { l.new ≡ setFrom 0 (entries h) l.old }
+    ensures { l.new ≡ set_from 0 (entries h) l.old }
 {
     let row0 = h.rot0;
     let row1 = h.rot1;
@@ -70,7 +70,7 @@ pub extern "C" fn raqembu_read_record(
     rotation: &mut [f32],
 ) -> usize
     ensures { TakenTo
-        (readRecord bytes.now spots.old matches.old directions.old)
+        (read_record bytes.now spots.old matches.old directions.old)
         result spots.new matches.new directions.new
         choices.old choices.new measures.old measures.new
         rotation.old rotation.new }

@@ -1,10 +1,10 @@
 // Two parts of the refinement that other firmware calls by themselves, the median and the matcher. A list passes as a pointer and a length.
 ghost use Rattle.std.specs.Prelude.{◌≡◌, length, replicate};
 ghost use Rattle.rounding.specs.Arith.{zero64};
-ghost use Rattle.stats.specs.Median.{medianMadSigma};
-ghost use Rattle.matching.specs.Greedy.{greedyUniqueMatches};
-ghost use Rattle.matching.specs.Answer.{numberOf, countOf};
-ghost use Rattle.exports.specs.Parts.{MatchedTo, twoPlaces};
+ghost use Rattle.stats.specs.Median.{median_mad_sigma};
+ghost use Rattle.matching.specs.Greedy.{greedy_unique_matches};
+ghost use Rattle.matching.specs.Answer.{number_of, count_of};
+ghost use Rattle.exports.specs.Parts.{MatchedTo, two_places};
 
 use crate::places::put_double;
 use lists::put_number;
@@ -14,7 +14,7 @@ use matching::Matched;
 #[unsafe(no_mangle)]
 pub extern "C" fn raqembu_median_mad_sigma(vals: &mut [f64], out: &mut [f64])
     ensures { (vals.new ≡ replicate (length vals.old) zero64)
-        × (out.new ≡ twoPlaces out.old (medianMadSigma vals.old)) }
+        × (out.new ≡ two_places out.old (median_mad_sigma vals.old)) }
 {
     let s = stats::median_mad_sigma(vals);
     put_double(out, 0, s.median);
@@ -36,7 +36,7 @@ pub extern "C" fn raqembu_greedy_unique_matches(
     counts: &mut [usize],
 ) -> usize
     ensures { MatchedTo
-        (greedyUniqueMatches points.now max_points predicted.now radius_sq
+        (greedy_unique_matches points.now max_points predicted.now radius_sq
         distances.old indices.old work.old)
         result distances.new indices.new work.new
         counts.old counts.new }
@@ -50,7 +50,7 @@ pub extern "C" fn raqembu_greedy_unique_matches(
 }
 
 fn number(m: Matched) -> usize
-    ensures { result ≡ numberOf m }
+    ensures { result ≡ number_of m }
 {
     match m {
         Matched::Matches(_) => 0,
@@ -60,7 +60,7 @@ fn number(m: Matched) -> usize
 }
 
 fn count(m: Matched) -> usize
-    ensures { result ≡ countOf m }
+    ensures { result ≡ count_of m }
 {
     match m {
         Matched::Matches(n) => n,

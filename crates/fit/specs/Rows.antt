@@ -4,10 +4,10 @@
 use Rattle.std.specs.Prelude.{ℕ, zero, suc, ◌+◌, ◌*◌, ◌/◌, List, [], ◌∷◌, get_or, length, Float}
 use Rattle.std.specs.Float.{nan}
 use Rattle.fit.specs.declared.Pose.{Pose}
-use Rattle.panel.specs.Spots.{spotAt}
+use Rattle.panel.specs.Spots.{spot_at}
 use Rattle.panel.specs.declared.Spot.{Spot}
 use Rattle.fit.specs.declared.Turn.{Turn}
-use Rattle.project.specs.Camera.{tanBasis}
+use Rattle.project.specs.Camera.{tan_basis}
 use Rattle.angles.specs.SinCos.{sin, cos}
 
 -- What a match (cent_idx, cat_idx) looks up: `centroids_px[cent_idx]`, with its weight, and `star_vectors.get(cat_idx)`, by value. 01: "`get` gives the base vector".
@@ -16,62 +16,62 @@ pub record Row : Type 0 where
   pub direction : List Float
 
 -- The code's side: a row of a spot and a direction.
-abbrev pub rowOf : Spot → List Float → Row
-rowOf c d = record { spot = c; direction = d }
+abbrev pub row_of : Spot → List Float → Row
+row_of c d = record { spot = c; direction = d }
 
 -- `star_vectors.get(i)`: directions lie flat, three components each. Past the list's end each reads as NaN.
-unfoldable pub directionAt : List Float → ℕ → List Float
-directionAt directions i =
+unfoldable pub direction_at : List Float → ℕ → List Float
+direction_at directions i =
     get_or directions (3 * i) nan
     ∷ get_or directions (3 * i + 1) nan
     ∷ get_or directions (3 * i + 2) nan
     ∷ []
 
 -- The row of match k, `matches[k]`. 01: "spot then direction", so the list lies flat.
-unfoldable pub rowAt : List Float → List Float → List ℕ → ℕ → Row
-unfolding spotAt directionAt
-rowAt spots directions matches k = record {
-  spot = spotAt spots (get_or matches (2 * k) 0);
-  direction = directionAt directions (get_or matches (2 * k + 1) 0);
+unfoldable pub row_at : List Float → List Float → List ℕ → ℕ → Row
+unfolding spot_at direction_at
+row_at spots directions matches k = record {
+  spot = spot_at spots (get_or matches (2 * k) 0);
+  direction = direction_at directions (get_or matches (2 * k + 1) 0);
 }
 
 -- The rows of the matches from k on, n of them.
-unfoldable pub rowsFrom : List Float → List Float → List ℕ → ℕ → ℕ → List Row
-unfolding rowAt
-rowsFrom spots directions matches k zero = []
-rowsFrom spots directions matches k (suc n) =
-    rowAt spots directions matches k ∷ rowsFrom spots directions matches (suc k) n
+unfoldable pub rows_from : List Float → List Float → List ℕ → ℕ → ℕ → List Row
+unfolding row_at
+rows_from spots directions matches k zero = []
+rows_from spots directions matches k (suc n) =
+    row_at spots directions matches k ∷ rows_from spots directions matches (suc k) n
 
 -- `for &(cent_idx, cat_idx) in matches`: the rows of all matches, in their order.
 unfoldable pub rows : List Float → List Float → List ℕ → List Row
-unfolding rowsFrom
-rows spots directions matches = rowsFrom spots directions matches 0 (length matches / 2)
+unfolding rows_from
+rows spots directions matches = rows_from spots directions matches 0 (length matches / 2)
 
 -- What `ls_fit_once`, `normal_matrix` and `compute_residuals` compute once: the basis at (RA, Dec), cosine and sine of theta, the scale. Beside
 -- them the plane cut, which `tan_project_vec` has as a number.
 pub record View : Type 0 where
   pub basis : List (List Float)
-  pub cosT : Float
-  pub sinT : Float
+  pub cos_t : Float
+  pub sin_t : Float
   pub ps : Float
   pub cut : Float
 
 -- The view at a pose: `theta.cos()`, `theta.sin()` and `tan_basis(crval_ra, crval_dec)` at the head of those functions.
-unfoldable pub viewOf : Pose → Float → View
-unfolding tanBasis sin cos
-viewOf p cut = record {
-  basis = tanBasis p.ra p.dec;
-  cosT = cos p.theta;
-  sinT = sin p.theta;
+unfoldable pub view_of : Pose → Float → View
+unfolding tan_basis sin cos
+view_of p cut = record {
+  basis = tan_basis p.ra p.dec;
+  cos_t = cos p.theta;
+  sin_t = sin p.theta;
   ps = p.scale;
   cut = cut;
 }
 
 -- The code's side: it carries the basis by itself and a Turn with all else.
-abbrev pub viewAt : List (List Float) → Turn → View
-viewAt b t = record { basis = b; cosT = t.cos_t; sinT = t.sin_t; ps = t.ps; cut = t.cut }
+abbrev pub view_at : List (List Float) → Turn → View
+view_at b t = record { basis = b; cos_t = t.cos_t; sin_t = t.sin_t; ps = t.ps; cut = t.cut }
 
 -- The code's side: the Turn at a pose.
-unfoldable pub turnOf : Pose → Float → Turn
+unfoldable pub turn_of : Pose → Float → Turn
 unfolding sin cos
-turnOf p cut = record { cos_t = cos p.theta; sin_t = sin p.theta; ps = p.scale; cut = cut }
+turn_of p cut = record { cos_t = cos p.theta; sin_t = sin p.theta; ps = p.scale; cut = cut }

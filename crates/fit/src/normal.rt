@@ -1,8 +1,8 @@
 // The normal equations of the fit, summed over the matches from the left.
 ghost use Rattle.std.specs.Prelude.{◌≡◌, List, [], ◌∷◌, ◌<◌, ◌^◌, Float};
 ghost use Rattle.solve.specs.Vector.{at};
-ghost use Rattle.fit.specs.Rows.{rows, rowOf, viewOf, viewAt};
-ghost use Rattle.fit.specs.Normal.{added, addedRow, accumulatedBy, accumulateNormalEquations, rightSide, withRow, withRows, noMatches, normalMatrix, solvedSums, lsFitOnce};
+ghost use Rattle.fit.specs.Rows.{rows, row_of, view_of, view_at};
+ghost use Rattle.fit.specs.Normal.{added, added_row, accumulated_by, accumulate_normal_equations, right_side, with_row, with_rows, no_matches, normal_matrix, solved_sums, ls_fit_once};
 
 use crate::rows::{direction_at, turn_of};
 use crate::{Counted, Pose, Sums, Turn};
@@ -18,7 +18,7 @@ fn added(old: f64, weight: f64, a: f64, b: f64, c: f64, d: f64) -> f64
 }
 
 fn added_row(old: [f64; 3], weight: f64, a: f64, jxi: [f64; 3], c: f64, jeta: [f64; 3]) -> [f64; 3]
-    ensures { result ≡ addedRow old weight a jxi c jeta }
+    ensures { result ≡ added_row old weight a jxi c jeta }
 {
     let x = added(old[0], weight, a, jxi[0], c, jeta[0]);
     let y = added(old[1], weight, a, jxi[1], c, jeta[1]);
@@ -55,7 +55,7 @@ fn accumulated_by(
     r_xi: f64,
     r_eta: f64,
 ) -> Sums
-    ensures { result ≡ accumulatedBy s weight jxi jeta r_xi r_eta }
+    ensures { result ≡ accumulated_by s weight jxi jeta r_xi r_eta }
 {
     let old0 = s.ata0;
     let old1 = s.ata1;
@@ -86,7 +86,7 @@ pub fn accumulate_normal_equations(
     r_xi: f64,
     r_eta: f64,
 ) -> Sums
-    ensures { result ≡ accumulateNormalEquations s px py weight cos_t sin_t ps r_xi r_eta }
+    ensures { result ≡ accumulate_normal_equations s px py weight cos_t sin_t ps r_xi r_eta }
 {
     let jxi = [ps * (-sin_t * px - cos_t * py), 1.0, 0.0];
     let jeta = [ps * (cos_t * px - sin_t * py), 0.0, 1.0];
@@ -95,7 +95,7 @@ pub fn accumulate_normal_equations(
 
 // What is left from the spot's plane point to the direction's in a fit; nothing in a normal matrix.
 fn right_side(fitting: bool, t: Turn, c: Spot, xi: f64, eta: f64) -> Plane
-    ensures { (b : List (List Float)) → result ≡ rightSide fitting (viewAt b t) c xi eta }
+    ensures { (b : List (List Float)) → result ≡ right_side fitting (view_at b t) c xi eta }
 {
     if fitting {
         let p = predict_tanplane(c.px, c.py, t.cos_t, t.sin_t, t.ps);
@@ -117,7 +117,7 @@ fn with_row(
     d: [f32; 3],
 ) -> Counted
     requires { s.n < 2 ^ 63 }
-    ensures { result ≡ withRow fitting (viewAt basis t) s (rowOf c d) }
+    ensures { result ≡ with_row fitting (view_at basis t) s (row_of c d) }
 {
     let p = tan_project_vec(d, basis, t.cut);
     let Projected::At(xi, eta) = p else {
@@ -133,7 +133,7 @@ fn with_row(
 
 // Before the first match.
 fn no_matches() -> Counted
-    ensures { result ≡ noMatches }
+    ensures { result ≡ no_matches }
 {
     let z = [0.0, 0.0, 0.0];
     let sums = Sums {
@@ -154,7 +154,7 @@ fn summed(
     basis: [[f64; 3]; 3],
     t: Turn,
 ) -> Counted
-    ensures { result ≡ withRows fitting (viewAt basis t) noMatches
+    ensures { result ≡ with_rows fitting (view_at basis t) no_matches
         (rows spots.now directions.now matches.now) }
 {
     let n = matches.len() / 2;
@@ -178,7 +178,7 @@ pub fn normal_matrix(
     pose: Pose,
     cut: f64,
 ) -> Counted
-    ensures { result ≡ normalMatrix (viewOf pose cut)
+    ensures { result ≡ normal_matrix (view_of pose cut)
         (rows spots.now directions.now matches.now) }
 {
     let basis = tan_basis(pose.ra, pose.dec);
@@ -188,7 +188,7 @@ pub fn normal_matrix(
 
 // Fewer than 3 matches do not determine a solution.
 fn solved_sums(c: Counted) -> Solution
-    ensures { result ≡ solvedSums c }
+    ensures { result ≡ solved_sums c }
 {
     if c.n < 3 {
         return Solution::Failed;
@@ -209,7 +209,7 @@ pub fn ls_fit_once(
     pose: Pose,
     cut: f64,
 ) -> Solution
-    ensures { result ≡ lsFitOnce (viewOf pose cut)
+    ensures { result ≡ ls_fit_once (view_of pose cut)
         (rows spots.now directions.now matches.now) }
 {
     let basis = tan_basis(pose.ra, pose.dec);

@@ -1,7 +1,7 @@
 // What a match brings to the fit beside its spot: its direction, and what the pose brings. Each number past the end of the list reads as NaN, so
 // that every index has a direction.
 ghost use Rattle.std.specs.Prelude.{◌≡◌, ◌≤◌, ◌/◌, length};
-ghost use Rattle.fit.specs.Rows.{directionAt, turnOf};
+ghost use Rattle.fit.specs.Rows.{direction_at, turn_of};
 
 use crate::{Pose, Turn};
 use angles::sin_cos;
@@ -9,7 +9,7 @@ use lists::single_at;
 
 // The direction i of a flat list, three components each.
 pub fn direction_at(directions: &[f32], i: usize) -> [f32; 3]
-    ensures { result ≡ directionAt directions.now i }
+    ensures { result ≡ direction_at directions.now i }
 {
     if i < directions.len() / 3 {
         let at = 3 * i;
@@ -21,7 +21,7 @@ pub fn direction_at(directions: &[f32], i: usize) -> [f32; 3]
 // The same where the list ends before the direction does.
 fn direction_past(directions: &[f32], i: usize) -> [f32; 3]
     requires { length directions.now / 3 ≤ i }
-    ensures { result ≡ directionAt directions.now i }
+    ensures { result ≡ direction_at directions.now i }
 {
     let nan: f32 = 0.0 / 0.0;
     if directions.len() / 3 < i {
@@ -35,7 +35,7 @@ fn direction_past(directions: &[f32], i: usize) -> [f32; 3]
 
 // What a pass computes once from the pose, beside the basis.
 pub fn turn_of(pose: Pose, cut: f64) -> Turn
-    ensures { result ≡ turnOf pose cut }
+    ensures { result ≡ turn_of pose cut }
 {
     let t = sin_cos(pose.theta);
     Turn {

@@ -8,13 +8,13 @@ use lib.Seq.{drop-length}
 use Rattle.lists.specs.Cleared.{cleared}
 
 module _ {A : Type 0} (z : A) where
-  pub cleared-within : (n : ℕ) (l : List A) → n ≤ length l → cleared z n l ≡ replicate n z ++ drop n l
+  pub cleared_within : (n : ℕ) (l : List A) → n ≤ length l → cleared z n l ≡ replicate n z ++ drop n l
   unfolding cleared
-  cleared-within n l h = let e : min n (length l) ≡ n = omega arith in rw e
+  cleared_within n l h = let e : min n (length l) ≡ n = omega arith in rw e
 
-  pub cleared-whole : (n : ℕ) (l : List A) → n ≡ length l → cleared z n l ≡ replicate (length l) z
-  cleared-whole n l e =
-      rw e (cleared-within (length l) l (omega arith) ∙ ap (λ (r : List A). replicate (length l) z ++ r) (drop-length l) ∙ append-nil (replicate (length l) z))
+  pub cleared_whole : (n : ℕ) (l : List A) → n ≡ length l → cleared z n l ≡ replicate (length l) z
+  cleared_whole n l e =
+      rw e (cleared_within (length l) l (omega arith) ∙ ap (λ (r : List A). replicate (length l) z ++ r) (drop-length l) ∙ append-nil (replicate (length l) z))
 
   -- nothing lies behind a front that is longer than the list
   drop_min : (n : ℕ) (l : List A) → drop (min n (length l)) l ≡ drop n l
@@ -23,8 +23,8 @@ module _ {A : Type 0} (z : A) where
   drop_min (suc n) (x ∷ l) = let e : min (suc n) (suc (length l)) ≡ suc (min n (length l)) = omega arith in rw e (drop_min n l)
 
   -- the loop has passed m places, which are those to clear
-  pub all-cleared : (n m i : ℕ) (l s : List A) → m ≡ min n (length l) → i ≤ m → m ≤ i → s ≡ replicate i z ++ drop i l → s ≡ cleared z n l
+  pub all_cleared : (n m i : ℕ) (l s : List A) → m ≡ min n (length l) → i ≤ m → m ≤ i → s ≡ replicate i z ++ drop i l → s ≡ cleared z n l
   unfolding cleared
-  all-cleared n m i l s e h k did =
+  all_cleared n m i l s e h k did =
       let all : i ≡ min n (length l) = omega arith in
       did ∙ ap (λ (j : ℕ). replicate j z ++ drop j l) all ∙ ap (λ (r : List A). replicate (min n (length l)) z ++ r) (drop_min n l)

@@ -4,22 +4,22 @@ use lib.ListN.{length-replicate}
 use lib.Ieee.{Float}
 use Rattle.pairs.specs.Pairs.{pairs}
 use Rattle.pairs.specs.Candidates.{capacity}
-use Rattle.pairs.specs.Strips.{stripRoom}
-use Rattle.matching.specs.Merge.{notAfter}
+use Rattle.pairs.specs.Strips.{strip_room}
+use Rattle.matching.specs.Merge.{not_after}
 use Rattle.matching.specs.Comparisons.{comparisons}
-use Rattle.matching.specs.Greedy.{Match, Outcome, matchesOf, flat, marks, needed, placed, overfull, greedyUniqueMatches, greedyByStrips}
+use Rattle.matching.specs.Greedy.{Match, Outcome, matches_of, flat, marks, needed, placed, overfull, greedy_unique_matches, greedy_by_strips}
 use Rattle.matching.specs.declared.Matched.TheVariants.{Matches, TooMany, Short}
 use Rattle.matching.specs.Meaning.{Frame}
 use Rattle.matching.specs.Meant.{HandedBack, CallMeant, CallByStripsMeant}
-use Rattle.matching.proofs.Meaning.{matcher-meant}
+use Rattle.matching.proofs.Meaning.{matcher_meant}
 
-pub flat-many : (ms : List Match) → length (flat ms) ≡ 2 * length ms
+pub flat_many : (ms : List Match) → length (flat ms) ≡ 2 * length ms
 unfolding flat
-flat-many [] = refl
-flat-many (m ∷ ms) = omega (arith, flat-many ms)
+flat_many [] = refl
+flat_many (m ∷ ms) = omega (arith, flat_many ms)
 
-too-many : (n : ℕ) → TooMany ≡ Matches n → ⊥
-too-many n h = cc
+too_many : (n : ℕ) → TooMany ≡ Matches n → ⊥
+too_many n h = cc
 
 short : (n : ℕ) → Short ≡ Matches n → ⊥
 short n h = cc
@@ -29,7 +29,7 @@ counted m n h = cc
 
 module _ (f : Frame) where
   abbrev list : List Match
-  list = matchesOf f.points f.limit f.predicted f.radius-sq
+  list = matches_of f.points f.limit f.predicted f.radius_sq
 
   abbrev marked : ℕ
   marked = marks f.points f.limit f.predicted
@@ -38,30 +38,30 @@ module _ (f : Frame) where
   left : (n from : ℕ) (work front rest : List ℕ) → length front ≡ from → work ≡ front ++ (flat list ++ rest) → length list ≡ n → HandedBack f n from work
   left n from work front rest long is many = record {
     list = list;
-    the = matcher-meant f;
+    the = matcher_meant f;
     long = many;
     stands =
         ap (λ (k : ℕ). take (2 * k) (drop from work)) (sym many)
         ∙ ap (λ (l : List ℕ). take (2 * length list) (drop from l)) is
         ∙ ap (take (2 * length list)) (drop_at front (flat list ++ rest) from long)
-        ∙ take_at (flat list) rest (2 * length list) (flat-many list);
+        ∙ take_at (flat list) rest (2 * length list) (flat_many list);
   }
 
   module _ (distances : List Float) (indices work : List ℕ) where
     abbrev o : Outcome
-    o = greedyUniqueMatches f.points f.limit f.predicted f.radius-sq distances indices work
+    o = greedy_unique_matches f.points f.limit f.predicted f.radius_sq distances indices work
 
     abbrev all : Outcome
     all =
-        placed marked (length (pairs f.points f.limit f.predicted f.radius-sq)) (comparisons notAfter (pairs f.points f.limit f.predicted f.radius-sq))
+        placed marked (length (pairs f.points f.limit f.predicted f.radius_sq)) (comparisons not_after (pairs f.points f.limit f.predicted f.radius_sq))
         list distances indices work
 
     -- a call that answers matches has placed the list
     answered : (n : ℕ) → o.answer ≡ Matches n → o ≡ all
-    unfolding greedyUniqueMatches overfull
+    unfolding greedy_unique_matches overfull
     answered n h =
         by (ltb (length work) (needed f.points f.limit f.predicted))
-        (ltb (capacity distances indices) (length (pairs f.points f.limit f.predicted f.radius-sq))) h
+        (ltb (capacity distances indices) (length (pairs f.points f.limit f.predicted f.radius_sq))) h
       where
         shorter : Outcome
         shorter = record { answer = Short; comparisons = 0; distances = distances; indices = indices; work = work }
@@ -69,7 +69,7 @@ module _ (f : Frame) where
         by : (s t : Bool) → (cond s shorter (cond t (overfull distances indices work) all)).answer ≡ Matches n
             → cond s shorter (cond t (overfull distances indices work) all) ≡ all
         by true t e = absurd (short n e)
-        by false true e = absurd (too-many n e)
+        by false true e = absurd (too_many n e)
         by false false e = refl
 
     many : (n : ℕ) → o.answer ≡ Matches n → length list ≡ n
@@ -83,17 +83,17 @@ module _ (f : Frame) where
     unfolding placed rest
     stands n h = ap (λ (x : Outcome). x.work) (answered n h) ∙ append_assoc (replicate marked 0) (flat list) rest
 
-pub call-meant : CallMeant
-call-meant f d ix w n h =
+pub call_meant : CallMeant
+call_meant f d ix w n h =
     left f n (marked f) (o f d ix w).work (replicate (marked f) 0) (rest f d ix w) (length-replicate (marked f) 0) (stands f d ix w n h) (many f d ix w n h)
 
-pub call-by-strips-meant : CallByStripsMeant
-unfolding greedyByStrips
-call-by-strips-meant f d ix w n h =
+pub call_by_strips_meant : CallByStripsMeant
+unfolding greedy_by_strips
+call_by_strips_meant f d ix w n h =
     by (ltb (length w) (room + needed f.points f.limit f.predicted)) h
   where
     room : ℕ
-    room = stripRoom f.points f.limit
+    room = strip_room f.points f.limit
 
     inner : Outcome
     inner = o f d ix (drop room w)

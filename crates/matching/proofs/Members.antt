@@ -8,28 +8,28 @@ Has x [] = ⊥
 Has x (y ∷ l) = (y ≡ x) ⊎ Has x l
 
 -- what holds of whatever a list has holds of all of it, and the other way round
-pub all-has : {A : Type 0} (P : A → Type 0) (l : List A) → ((x : A) → Has x l → P x) → All P l
+pub all_has : {A : Type 0} (P : A → Type 0) (l : List A) → ((x : A) → Has x l → P x) → All P l
 unfolding Has
-all-has P [] h = none
-all-has P (x ∷ l) h = more x l (h x (inl refl)) (all-has P l (λ y q. h y (inr q)))
+all_has P [] h = none
+all_has P (x ∷ l) h = more x l (h x (inl refl)) (all_has P l (λ y q. h y (inr q)))
 
-pub has-all : {A : Type 0} (P : A → Type 0) (l : List A) → All P l → (x : A) → Has x l → P x
+pub has_all : {A : Type 0} (P : A → Type 0) (l : List A) → All P l → (x : A) → Has x l → P x
 unfolding Has
-has-all P [] h x q = absurd q
-has-all P (y ∷ l) h x (inl e) = subst P e (all_head P h)
-has-all P (y ∷ l) h x (inr q) = has-all P l (all_tail P h) x q
+has_all P [] h x q = absurd q
+has_all P (y ∷ l) h x (inl e) = subst P e (all_head P h)
+has_all P (y ∷ l) h x (inr q) = has_all P l (all_tail P h) x q
 
 module _ {A : Type 0} (x : A) where
-  pub has-front : (l m : List A) → Has x l → Has x (l ++ m)
+  pub has_front : (l m : List A) → Has x l → Has x (l ++ m)
   unfolding Has
-  has-front [] m h = absurd h
-  has-front (y ∷ l) m (inl e) = inl e
-  has-front (y ∷ l) m (inr h) = inr (has-front l m h)
+  has_front [] m h = absurd h
+  has_front (y ∷ l) m (inl e) = inl e
+  has_front (y ∷ l) m (inr h) = inr (has_front l m h)
 
-  pub has-back : (l m : List A) → Has x m → Has x (l ++ m)
+  pub has_back : (l m : List A) → Has x m → Has x (l ++ m)
   unfolding Has
-  has-back [] m h = h
-  has-back (y ∷ l) m h = inr (has-back l m h)
+  has_back [] m h = h
+  has_back (y ∷ l) m h = inr (has_back l m h)
 
 -- each is related to all that follow
 unfoldable pub Chain : {A : Type 0} → (A → A → Type 0) → List A → Type 0

@@ -9,7 +9,7 @@ use Rattle.pairs.proofs.Elements.{all_head, all_tail}
 use Rattle.matching.specs.Greedy.{Match, clashes, assigned}
 use Rattle.matching.specs.Meaning.{Share}
 use Rattle.matching.proofs.Members.{Has}
-use Rattle.matching.proofs.Picking.{both-ways, clash, picked}
+use Rattle.matching.proofs.Picking.{both_ways, clash, picked}
 
 -- ---- the test
 
@@ -26,53 +26,53 @@ shares m n = (says m n).1
 pub shared : (m n : Match) → share m n ≡ true → Share m n
 shared m n = (says m n).0
 
-pub share-self : (m : Match) → share m m ≡ true
-share-self m = shares m m (inl refl)
+pub share_self : (m : Match) → share m m ≡ true
+share_self m = shares m m (inl refl)
 
-pub turned-round : (m n : Match) → Share m n → Share n m
-turned-round m n (inl e) = inl (sym e)
-turned-round m n (inr e) = inr (sym e)
+pub turned_round : (m n : Match) → Share m n → Share n m
+turned_round m n (inl e) = inl (sym e)
+turned_round m n (inr e) = inr (sym e)
 
 -- nothing clashes where nothing was taken
-pub none-free : (m : Match) → clash share m [] ≡ false
+pub none_free : (m : Match) → clash share m [] ≡ false
 unfolding clash
-none-free m = refl
+none_free m = refl
 
-pub none-taken : (m : Match) → clash share m [] ≡ true → ⊥
-none-taken m c = both-ways c (none-free m)
+pub none_taken : (m : Match) → clash share m [] ≡ true → ⊥
+none_taken m c = both_ways c (none_free m)
 
 -- ---- pairs as matches
 
-unfoldable pub matchOf : Pair → Match
-matchOf p = record { spot = p.spot; prediction = p.prediction }
+unfoldable pub match_of : Pair → Match
+match_of p = record { spot = p.spot; prediction = p.prediction }
 
 unfoldable pub mapped : List Pair → List Match
 mapped [] = []
-mapped (p ∷ ps) = matchOf p ∷ mapped ps
+mapped (p ∷ ps) = match_of p ∷ mapped ps
 
-pub mapped-has : (ps : List Pair) (p : Pair) → Has p ps → Has (matchOf p) (mapped ps)
+pub mapped_has : (ps : List Pair) (p : Pair) → Has p ps → Has (match_of p) (mapped ps)
 unfolding Has mapped
-mapped-has [] p h = h
-mapped-has (q ∷ ps) p (inl e) = inl (ap matchOf e)
-mapped-has (q ∷ ps) p (inr h) = inr (mapped-has ps p h)
+mapped_has [] p h = h
+mapped_has (q ∷ ps) p (inl e) = inl (ap match_of e)
+mapped_has (q ∷ ps) p (inr h) = inr (mapped_has ps p h)
 
 -- what holds of all pairs holds of the matches
-pub mapped-all : (P : Pair → Type 0) (Q : Match → Type 0) → ((p : Pair) → P p → Q (matchOf p)) → (ps : List Pair) → All P ps → All Q (mapped ps)
+pub mapped_all : (P : Pair → Type 0) (Q : Match → Type 0) → ((p : Pair) → P p → Q (match_of p)) → (ps : List Pair) → All P ps → All Q (mapped ps)
 unfolding mapped
-mapped-all P Q f [] h = none
-mapped-all P Q f (p ∷ ps) h = more (matchOf p) (mapped ps) (f p (all_head P h)) (mapped-all P Q f ps (all_tail P h))
+mapped_all P Q f [] h = none
+mapped_all P Q f (p ∷ ps) h = more (match_of p) (mapped ps) (f p (all_head P h)) (mapped_all P Q f ps (all_tail P h))
 
 -- ---- what is assigned is what is picked
 
-clashes-clash : (p : Pair) (ms : List Match) → clashes p ms ≡ clash share (matchOf p) ms
-unfolding clashes clash share matchOf
-clashes-clash p [] = refl
-clashes-clash p (m ∷ ms) =
-    ap (λ (b : Bool). eqb p.spot m.spot || eqb p.prediction m.prediction || b) (clashes-clash p ms)
+clashes_clash : (p : Pair) (ms : List Match) → clashes p ms ≡ clash share (match_of p) ms
+unfolding clashes clash share match_of
+clashes_clash p [] = refl
+clashes_clash p (m ∷ ms) =
+    ap (λ (b : Bool). eqb p.spot m.spot || eqb p.prediction m.prediction || b) (clashes_clash p ms)
 
-pub assigned-picked : (ps : List Pair) (taken : List Match) → assigned taken ps ≡ picked share taken (mapped ps)
-unfolding assigned picked mapped matchOf
-assigned-picked [] taken = refl
-assigned-picked (p ∷ ps) taken =
-    ap₂ (λ (a b : List Match). cond (clashes p taken) a (matchOf p ∷ b)) (assigned-picked ps taken) (assigned-picked ps (matchOf p ∷ taken))
-    ∙ ap (λ (b : Bool). cond b (picked share taken (mapped ps)) (matchOf p ∷ picked share (matchOf p ∷ taken) (mapped ps))) (clashes-clash p taken)
+pub assigned_picked : (ps : List Pair) (taken : List Match) → assigned taken ps ≡ picked share taken (mapped ps)
+unfolding assigned picked mapped match_of
+assigned_picked [] taken = refl
+assigned_picked (p ∷ ps) taken =
+    ap₂ (λ (a b : List Match). cond (clashes p taken) a (match_of p ∷ b)) (assigned_picked ps taken) (assigned_picked ps (match_of p ∷ taken))
+    ∙ ap (λ (b : Bool). cond b (picked share taken (mapped ps)) (match_of p ∷ picked share (match_of p ∷ taken) (mapped ps))) (clashes_clash p taken)

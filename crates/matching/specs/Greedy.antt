@@ -1,10 +1,10 @@
 -- The assignment, and `greedy_unique_matches` (solver/matching.rs) whole, with what it leaves in the lent lists. Definitions only. Assumes nothing.
 use Rattle.std.specs.Prelude.{ℕ, ◌+◌, ◌*◌, ◌/◌, min, Bool, false, cond, ◌||◌, List, [], ◌∷◌, ◌++◌, ltb, eqb, length, drop, replicate, Float}
 use Rattle.rounding.specs.Arith.{zero64}
-use Rattle.pairs.specs.Pairs.{Pair, pairs, spotsWithin}
+use Rattle.pairs.specs.Pairs.{Pair, pairs, spots_within}
 use Rattle.pairs.specs.Candidates.{capacity}
-use Rattle.pairs.specs.Strips.{stripRoom}
-use Rattle.matching.specs.Merge.{notAfter, merged}
+use Rattle.pairs.specs.Strips.{strip_room}
+use Rattle.matching.specs.Merge.{not_after, merged}
 use Rattle.matching.specs.Comparisons.{comparisons}
 use Rattle.matching.specs.declared.Matched.{Matched}
 use Rattle.matching.specs.declared.Matched.TheVariants.{Matches, TooMany, Short}
@@ -28,9 +28,9 @@ assigned taken (p ∷ ps) =
     cond (clashes p taken) (assigned taken ps) (m ∷ assigned (m ∷ taken) ps)
 
 -- The matches of a round, in the order in which they are taken: the Rust's `matches`, with a prediction by its place.
-unfoldable pub matchesOf : List Float → ℕ → List Float → Float → List Match
-unfolding assigned merged notAfter pairs
-matchesOf points limit predicted r2 = assigned [] (merged notAfter (pairs points limit predicted r2))
+unfoldable pub matches_of : List Float → ℕ → List Float → Float → List Match
+unfolding assigned merged not_after pairs
+matches_of points limit predicted r2 = assigned [] (merged not_after (pairs points limit predicted r2))
 
 -- ---- the lent lists
 
@@ -44,16 +44,16 @@ abbrev pub cleared : ℕ → List Float → List Float
 cleared n l = replicate n zero64 ++ drop n l
 
 -- so of a list of whole numbers.
-abbrev pub clearedN : ℕ → List ℕ → List ℕ
-clearedN n l = replicate n 0 ++ drop n l
+abbrev pub cleared_n : ℕ → List ℕ → List ℕ
+cleared_n n l = replicate n 0 ++ drop n l
 
 -- The Rust's `used_point` and `used_pred`: a mark for each spot within the limit and for each prediction.
 abbrev pub marks : List Float → ℕ → List Float → ℕ
-marks points limit predicted = spotsWithin points limit + length predicted / 2
+marks points limit predicted = spots_within points limit + length predicted / 2
 
 -- The places of `work` that a call needs: the marks, and two for each match.
 abbrev pub needed : List Float → ℕ → List Float → ℕ
-needed points limit predicted = marks points limit predicted + 2 * min (spotsWithin points limit) (length predicted / 2)
+needed points limit predicted = marks points limit predicted + 2 * min (spots_within points limit) (length predicted / 2)
 
 -- What a call answers, how often it compared two pairs to put them in order (02, CR 14), and what the lists written to hold afterwards.
 pub record Outcome : Type 0 where
@@ -70,7 +70,7 @@ placed marked count compared ms distances indices work = record {
   answer = Matches (length ms);
   comparisons = compared;
   distances = cleared (2 * count) distances;
-  indices = clearedN (4 * count) indices;
+  indices = cleared_n (4 * count) indices;
   work = replicate marked 0 ++ flat ms ++ drop (marked + 2 * length ms) work;
 }
 
@@ -80,31 +80,31 @@ overfull distances indices work = record {
   answer = TooMany;
   comparisons = 0;
   distances = cleared (capacity distances indices) distances;
-  indices = clearedN (2 * capacity distances indices) indices;
+  indices = cleared_n (2 * capacity distances indices) indices;
   work = work;
 }
 
 -- `greedy_unique_matches` whole, with its lists lent. A `work` list that is too short is answered first, and nothing is written.
-unfoldable pub greedyUniqueMatches : List Float → ℕ → List Float → Float → List Float → List ℕ → List ℕ → Outcome
-unfolding pairs matchesOf placed overfull comparisons notAfter
-greedyUniqueMatches points limit predicted r2 distances indices work =
+unfoldable pub greedy_unique_matches : List Float → ℕ → List Float → Float → List Float → List ℕ → List ℕ → Outcome
+unfolding pairs matches_of placed overfull comparisons not_after
+greedy_unique_matches points limit predicted r2 distances indices work =
     cond (ltb (length work) (needed points limit predicted))
     (record { answer = Short; comparisons = 0; distances = distances; indices = indices; work = work })
     (cond (ltb (capacity distances indices) (length (pairs points limit predicted r2)))
     (overfull distances indices work)
     (placed (marks points limit predicted) (length (pairs points limit predicted r2))
-    (comparisons notAfter (pairs points limit predicted r2))
-    (matchesOf points limit predicted r2) distances indices work))
+    (comparisons not_after (pairs points limit predicted r2))
+    (matches_of points limit predicted r2) distances indices work))
 
 -- ---- with room for strips
 
 -- The same answer, with lent room in front of the marks where the spots are sorted into strips; it is left zero.
-unfoldable pub greedyByStrips : List Float → ℕ → List Float → Float → List Float → List ℕ → List ℕ → Outcome
-unfolding greedyUniqueMatches
-greedyByStrips points limit predicted r2 distances indices work =
-    cond (ltb (length work) (stripRoom points limit + needed points limit predicted))
+unfoldable pub greedy_by_strips : List Float → ℕ → List Float → Float → List Float → List ℕ → List ℕ → Outcome
+unfolding greedy_unique_matches
+greedy_by_strips points limit predicted r2 distances indices work =
+    cond (ltb (length work) (strip_room points limit + needed points limit predicted))
     (record { answer = Short; comparisons = 0; distances = distances; indices = indices; work = work })
-    (behind (greedyUniqueMatches points limit predicted r2 distances indices (drop (stripRoom points limit) work)))
+    (behind (greedy_unique_matches points limit predicted r2 distances indices (drop (strip_room points limit) work)))
   where
     behind : Outcome → Outcome
     behind o = record {
@@ -112,5 +112,5 @@ greedyByStrips points limit predicted r2 distances indices work =
       comparisons = o.comparisons;
       distances = o.distances;
       indices = o.indices;
-      work = replicate (stripRoom points limit) 0 ++ o.work;
+      work = replicate (strip_room points limit) 0 ++ o.work;
     }

@@ -3,7 +3,7 @@
 -- nothing. A pair is a spot and a prediction by their places, from 0: two predictions that fall on one point are two.
 use Rattle.std.specs.Prelude.{◌≡◌, ℕ, zero, suc, ◌/◌, ◌<◌, true, ◌⊎◌, List, [], ◌∷◌, length, Float}
 use Rattle.std.specs.Float.Ieee.{lt, eq, le}
-use Rattle.pairs.specs.Pairs.{pointAt, squared, spotsWithin}
+use Rattle.pairs.specs.Pairs.{point_at, squared, spots_within}
 use Rattle.matching.specs.Greedy.{Match}
 
 -- What is matched: spots and predictions, x then y of each, the matching limit, and the squared radius.
@@ -11,7 +11,7 @@ pub record Frame : Type 0 where
   pub points : List Float
   pub limit : ℕ
   pub predicted : List Float
-  pub radius-sq : Float
+  pub radius_sq : Float
 
 -- Place i of a list, from 0, holds the pair m.
 unfoldable pub At : List Match → ℕ → Match → Type 0
@@ -30,14 +30,14 @@ Share m n = (m.spot ≡ n.spot) ⊎ (m.prediction ≡ n.prediction)
 module _ (f : Frame) where
   -- "Distance is here the matcher's rounded squared distance":
   abbrev pub apart : Match → Float
-  apart m = squared (pointAt f.points m.spot) (pointAt f.predicted m.prediction)
+  apart m = squared (point_at f.points m.spot) (point_at f.predicted m.prediction)
 
   -- A pair within the radius: of one of "the spots within the matching limit" and a prediction, their distance at most the squared radius "it is compared
   -- with". A distance that is no number never is.
   pub record Near (m : Match) : Type 0 where
-    pub spot : m.spot < spotsWithin f.points f.limit
+    pub spot : m.spot < spots_within f.points f.limit
     pub prediction : m.prediction < length f.predicted / 2
-    pub distance : le (apart m) f.radius-sq ≡ true
+    pub distance : le (apart m) f.radius_sq ≡ true
 
   -- 01: "Pairs are ordered by squared distance, then spot, then prediction."
   abbrev pub Earlier : Match → Match → Type 0

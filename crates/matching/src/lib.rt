@@ -3,9 +3,9 @@
 
 ghost use Rattle.std.specs.Prelude.{◌≡◌, ◌⊎◌, [], ◌+◌, ◌*◌, ◌≤◌, min, length};
 ghost use Rattle.std.proofs.Math.Seq.{slice};
-ghost use Rattle.matching.specs.Merge.{notAfter, merged};
+ghost use Rattle.matching.specs.Merge.{not_after, merged};
 ghost use Rattle.matching.specs.Comparisons.{comparisons};
-ghost use Rattle.matching.specs.Greedy.{Outcome, assigned, placed, greedyUniqueMatches, greedyByStrips};
+ghost use Rattle.matching.specs.Greedy.{Outcome, assigned, placed, greedy_unique_matches, greedy_by_strips};
 ghost use Rattle.pairs.specs.Elements.{All};
 ghost use Rattle.pairs.specs.Candidates.{Inside, laid};
 ghost use Rattle.matching.specs.Layout.{outcome, concluded};
@@ -59,8 +59,8 @@ fn settle(
         × All (Inside np nq) (slice from (from + m) (laid distances.old indices.old)) }
     ensures { outcome result.matched result.comparisons distances.new indices.new work.new
         ≡ placed (np + nq) m
-        (comparisons notAfter (slice from (from + m) (laid distances.old indices.old)))
-        (assigned [] (merged notAfter (slice from (from + m) (laid distances.old indices.old))))
+        (comparisons not_after (slice from (from + m) (laid distances.old indices.old)))
+        (assigned [] (merged not_after (slice from (from + m) (laid distances.old indices.old))))
         distances.old indices.old work.old }
 {
     let marked = np + nq;
@@ -123,7 +123,7 @@ pub fn greedy_unique_matches(
           indices = indices.new;
           work = work.new;
         })
-        (greedyUniqueMatches points.now max_points predicted.now radius_sq
+        (greedy_unique_matches points.now max_points predicted.now radius_sq
         distances.old indices.old work.old) }
 {
     let np = pairs::spots_within(points, max_points);
@@ -155,7 +155,7 @@ pub fn greedy_unique_matches_by_strips(
           indices = indices.new;
           work = work.new;
         })
-        (greedyByStrips points.now max_points predicted.now radius_sq
+        (greedy_by_strips points.now max_points predicted.now radius_sq
         distances.old indices.old work.old) }
 {
     let np = pairs::spots_within(points, max_points);

@@ -6,15 +6,15 @@ use lib.Ieee.Fits.{down_pos}
 
 -- ---- tests that agree
 
-same-ltb : (a b x y : ℕ) → (a < b → x < y) → (b ≤ a → y ≤ x) → ltb a b ≡ ltb x y
-same-ltb a b x y p q = by (ltb a b) refl
+same_ltb : (a b x y : ℕ) → (a < b → x < y) → (b ≤ a → y ≤ x) → ltb a b ≡ ltb x y
+same_ltb a b x y p q = by (ltb a b) refl
   where
     by : (t : Bool) → ltb a b ≡ t → ltb a b ≡ ltb x y
     by true e = e ∙ sym (lt-ltb x y (p (ltb-true a b e)))
     by false e = e ∙ sym (le-ltb x y (q (ltb-false a b e)))
 
-same-eqb : (a b x y : ℕ) → (a ≡ b → x ≡ y) → (x ≡ y → a ≡ b) → eqb a b ≡ eqb x y
-same-eqb a b x y p q = by (eqb a b) refl
+same_eqb : (a b x y : ℕ) → (a ≡ b → x ≡ y) → (x ≡ y → a ≡ b) → eqb a b ≡ eqb x y
+same_eqb a b x y p q = by (eqb a b) refl
   where
     by : (t : Bool) → eqb a b ≡ t → eqb a b ≡ eqb x y
     by true e = e ∙ sym (eq-eqb x y (p (eqb-true a b e)))
@@ -48,16 +48,16 @@ module _ (M k a b : ℕ) (pos : 0 < k) (pa : a * k < M) (pb : b * k < M) where
   nothing_left : a ≡ 0 → b ≡ 0 → (a * k ≡ 0) × (b * k ≡ 0)
   nothing_left p q = (rw p (omega arith), rw q (omega arith))
 
-  below-signed : (s t : Bool) → below s a t b ≡ ltb (signed M s (a * k)) (signed M t (b * k))
+  below_signed : (s t : Bool) → below s a t b ≡ ltb (signed M s (a * k)) (signed M t (b * k))
   unfolding signed
-  below-signed false false = same-ltb a b (M + a * k) (M + b * k) (λ h. omega (arith, less h)) (λ h. omega (arith, most h))
-  below-signed false true = sym (le-ltb (M + a * k) (M - b * k) (omega arith))
-  below-signed true false = same-ltb 0 (a + b) (M - a * k) (M + b * k) (λ h. omega (arith, grown)) (λ h. omega (arith, nothing_left (omega arith) (omega arith)))
-  below-signed true true = same-ltb b a (M - a * k) (M - b * k) (λ h. omega (arith, less h)) (λ h. omega (arith, most h))
+  below_signed false false = same_ltb a b (M + a * k) (M + b * k) (λ h. omega (arith, less h)) (λ h. omega (arith, most h))
+  below_signed false true = sym (le-ltb (M + a * k) (M - b * k) (omega arith))
+  below_signed true false = same_ltb 0 (a + b) (M - a * k) (M + b * k) (λ h. omega (arith, grown)) (λ h. omega (arith, nothing_left (omega arith) (omega arith)))
+  below_signed true true = same_ltb b a (M - a * k) (M - b * k) (λ h. omega (arith, less h)) (λ h. omega (arith, most h))
 
-  and-true : (x : Bool) → x && true ≡ x
-  and-true true = refl
-  and-true false = refl
+  and_true : (x : Bool) → x && true ≡ x
+  and_true true = refl
+  and_true false = refl
 
   -- numbers of unlike signs are equal only where both are zero
   unlike : (x y : ℕ) → (a * k ≡ 0 → b * k ≡ 0 → x ≡ y) → (x ≡ y → (a * k ≡ 0) × (b * k ≡ 0)) → eqb a b && (false || eqb a 0) ≡ eqb x y
@@ -70,12 +70,12 @@ module _ (M k a b : ℕ) (pos : 0 < k) (pa : a * k < M) (pb : b * k < M) where
       by true e false f = sym (ne_eqb x y (λ h. eqb-false a 0 f (omega (arith, (q h).0, grown))))
       by false e v f = sym (ne_eqb x y (λ h. eqb-false a b e (omega (arith, q h, grown))))
 
-  level-signed : (s t : Bool) → level s a t b ≡ eqb (signed M s (a * k)) (signed M t (b * k))
+  level_signed : (s t : Bool) → level s a t b ≡ eqb (signed M s (a * k)) (signed M t (b * k))
   unfolding signed
-  level-signed false false = and-true (eqb a b) ∙ same-eqb a b (M + a * k) (M + b * k) (λ e. ap (λ (x : ℕ). M + x * k) e) (λ e. same (omega arith))
-  level-signed false true = unlike (M + a * k) (M - b * k) (λ p q. omega arith) (λ e. (omega arith, omega arith))
-  level-signed true false = unlike (M - a * k) (M + b * k) (λ p q. omega arith) (λ e. (omega arith, omega arith))
-  level-signed true true = and-true (eqb a b) ∙ same-eqb a b (M - a * k) (M - b * k) (λ e. ap (λ (x : ℕ). M - x * k) e) (λ e. same (omega arith))
+  level_signed false false = and_true (eqb a b) ∙ same_eqb a b (M + a * k) (M + b * k) (λ e. ap (λ (x : ℕ). M + x * k) e) (λ e. same (omega arith))
+  level_signed false true = unlike (M + a * k) (M - b * k) (λ p q. omega arith) (λ e. (omega arith, omega arith))
+  level_signed true false = unlike (M - a * k) (M + b * k) (λ p q. omega arith) (λ e. (omega arith, omega arith))
+  level_signed true true = and_true (eqb a b) ∙ same_eqb a b (M - a * k) (M - b * k) (λ e. ap (λ (x : ℕ). M - x * k) e) (λ e. same (omega arith))
 
 -- ---- two floats
 
@@ -142,7 +142,7 @@ compares M k (fin s m e) (fin t n d) u v pos p q =
     let y : n * up d * (down e * k) ≡ n * up d * down e * k = sym (mul_assoc (n * up d) (down e) k) in
     let p' : m * up e * down d * k < M = rw x at p in
     let q' : n * up d * down e * k < M = rw y at q in
-    rw (x, y) (below-signed M k (m * up e * down d) (n * up d * down e) pos p' q' s t, level-signed M k (m * up e * down d) (n * up d * down e) pos p' q' s t)
+    rw (x, y) (below_signed M k (m * up e * down d) (n * up d * down e) pos p' q' s t, level_signed M k (m * up e * down d) (n * up d * down e) pos p' q' s t)
 
 -- ---- three floats
 

@@ -2,9 +2,9 @@
 #![tactic(auto)]
 
 ghost use Rattle.std.specs.Prelude.{◌≡◌, length};
-ghost use Rattle.pairs.specs.Pairs.{pairs, spotsWithin};
+ghost use Rattle.pairs.specs.Pairs.{pairs, spots_within};
 ghost use Rattle.pairs.specs.Candidates.{capacity, found, pushed};
-ghost use Rattle.pairs.specs.Strips.{pairsNearby, roomAfter};
+ghost use Rattle.pairs.specs.Strips.{pairs_nearby, room_after};
 
 mod by_spot; // by_spot.rt: the pairs found, put by spot
 mod pairs; // pairs.rt: all pairs, tried in turn
@@ -14,7 +14,7 @@ pub use by_spot::put_by_spot;
 
 // The spots that are looked at: the first `max_points` of them.
 pub fn spots_within(points: &[f64], max_points: usize) -> usize
-    ensures { result ≡ spotsWithin points.now max_points }
+    ensures { result ≡ spots_within points.now max_points }
 {
     lists::smaller(points.len() / 2, max_points)
 }
@@ -62,9 +62,9 @@ pub fn collect_by_strips(
     ensures { (found result distances.new indices.new
         ≡ pushed (capacity distances.old indices.old)
         (found 0 distances.old indices.old)
-        (pairsNearby points.now max_points predicted.now radius_sq
+        (pairs_nearby points.now max_points predicted.now radius_sq
         (length work.old)))
-        × (work.new ≡ roomAfter points.now max_points work.old) }
+        × (work.new ≡ room_after points.now max_points work.old) }
 {
     let np = spots_within(points, max_points);
     let cap = room_for(&distances[..], &indices[..]);

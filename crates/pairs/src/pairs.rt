@@ -1,6 +1,6 @@
 // The candidate pairs, by spot and then prediction.
 ghost use Rattle.std.specs.Prelude.{◌≡◌, ◌+◌, ◌*◌, ◌/◌, ◌≤◌, length};
-ghost use Rattle.pairs.specs.Pairs.{pairsOf, pairsFrom};
+ghost use Rattle.pairs.specs.Pairs.{pairs_of, pairs_from};
 ghost use Rattle.pairs.specs.Candidates.{point, found, pushed};
 
 // The pairs of one spot with the first n predictions go after the m that stand there. One more than `cap` is answered as
@@ -23,7 +23,7 @@ fn collect_spot(
         × (m ≤ cap) }
     ensures { found result distances.new indices.new
         ≡ pushed cap (found m distances.old indices.old)
-        (pairsOf radius_sq predicted.now spot (point x y) 0 n) }
+        (pairs_of radius_sq predicted.now spot (point x y) 0 n) }
 {
     let mut k = m;
     let mut j: usize = 0;
@@ -58,7 +58,7 @@ pub(crate) fn collect(
     requires { (2 * np ≤ length points.now) × (cap ≤ length distances.old) × (2 * cap ≤ length indices.old) }
     ensures { found result distances.new indices.new
         ≡ pushed cap (found 0 distances.old indices.old)
-        (pairsFrom radius_sq points.now predicted.now 0 np) }
+        (pairs_from radius_sq points.now predicted.now 0 np) }
 {
     let n = predicted.len() / 2;
     let mut m: usize = 0;

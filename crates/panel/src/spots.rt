@@ -1,6 +1,6 @@
 // A spot of a flat list. Each number past the list's end reads as NaN, so that every index has a spot.
 ghost use Rattle.std.specs.Prelude.{◌≡◌, ◌≤◌, ◌/◌, length};
-ghost use Rattle.panel.specs.Spots.{spotNumbers, spotAt};
+ghost use Rattle.panel.specs.Spots.{spot_numbers, spot_at};
 
 use crate::Spot;
 use lists::float_at;
@@ -10,7 +10,7 @@ pub const SPOT_NUMBERS: usize = 3;
 
 // The spot i of a flat list.
 pub fn spot_at(spots: &[f64], i: usize) -> Spot
-    ensures { result ≡ spotAt spots.now i }
+    ensures { result ≡ spot_at spots.now i }
 {
     if i < spots.len() / SPOT_NUMBERS {
         let at = SPOT_NUMBERS * i;
@@ -25,8 +25,8 @@ pub fn spot_at(spots: &[f64], i: usize) -> Spot
 
 // The same where the list ends before the spot does.
 fn spot_past(spots: &[f64], i: usize) -> Spot
-    requires { length spots.now / spotNumbers ≤ i }
-    ensures { result ≡ spotAt spots.now i }
+    requires { length spots.now / spot_numbers ≤ i }
+    ensures { result ≡ spot_at spots.now i }
 {
     let nan = 0.0 / 0.0;
     if spots.len() / SPOT_NUMBERS < i {

@@ -3,7 +3,7 @@
 
 ghost use Rattle.std.specs.Prelude.{◌≡◌};
 ghost use Rattle.fit.specs.Rows.{rows};
-ghost use Rattle.passes.specs.Fit.{moved, sound, still, fitPasses, passesOf};
+ghost use Rattle.passes.specs.Fit.{moved, sound, still, fit_passes, passes_of};
 
 use fit::{Pose, ls_fit_once};
 use project::inverse_tan_project;
@@ -68,7 +68,7 @@ pub fn fit_passes(
     pose: Pose,
     cut: f64,
 ) -> Passed
-    ensures { passesOf result ≡ fitPasses 10 cut
+    ensures { passes_of result ≡ fit_passes 10 cut
         (rows spots.now directions.now matches.now) pose }
 {
     let n = matches.len() / 2;

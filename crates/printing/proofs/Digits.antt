@@ -7,79 +7,79 @@ use native.Mathlib.Omega.{arith}
 use borrow.Author.Tests.{lt-ltb, le-ltb}
 use lib.Dec.{ltb}
 use lib.Ieee.{Float, binary64, to_bits}
-use Rattle.printing.specs.Text.{decimalFrom, decimal, hexDigit, hexFrom, bitsText}
+use Rattle.printing.specs.Text.{decimal_from, decimal, hex_digit, hex_from, bits_text}
 
 -- ---- decimal
 
-either-before : (b : Bool) {x y : List ℕ} (x' y' after : List ℕ) → x ≡ x' ++ after → y ≡ y' ++ after → cond b x y ≡ cond b x' y' ++ after
-either-before true x' y' after e f = e
-either-before false x' y' after e f = f
+either_before : (b : Bool) {x y : List ℕ} (x' y' after : List ℕ) → x ≡ x' ++ after → y ≡ y' ++ after → cond b x y ≡ cond b x' y' ++ after
+either_before true x' y' after e f = e
+either_before false x' y' after e f = f
 
-decimal-before : (k n : ℕ) (after : List ℕ) → decimalFrom k n after ≡ decimalFrom k n [] ++ after
-unfolding decimalFrom
-decimal-before zero n after = refl
-decimal-before (suc k) n after =
+decimal_before : (k n : ℕ) (after : List ℕ) → decimal_from k n after ≡ decimal_from k n [] ++ after
+unfolding decimal_from
+decimal_before zero n after = refl
+decimal_before (suc k) n after =
     let d = 48 + n % 10 in
-    either-before (ltb n 10) ((48 + n) ∷ []) (decimalFrom k (n / 10) (d ∷ [])) after refl
-    (decimal-before k (n / 10) (d ∷ after) ∙ sym (append_assoc (decimalFrom k (n / 10) []) (d ∷ []) after)
-    ∙ ap (λ (s : List ℕ). s ++ after) (sym (decimal-before k (n / 10) (d ∷ []))))
+    either_before (ltb n 10) ((48 + n) ∷ []) (decimal_from k (n / 10) (d ∷ [])) after refl
+    (decimal_before k (n / 10) (d ∷ after) ∙ sym (append_assoc (decimal_from k (n / 10) []) (d ∷ []) after)
+    ∙ ap (λ (s : List ℕ). s ++ after) (sym (decimal_before k (n / 10) (d ∷ []))))
 
-pub decimal-last : (k n : ℕ) → k ≡ 0 → decimalFrom k n [] ≡ (48 + n % 10) ∷ []
-unfolding decimalFrom
-decimal-last k n e = ap (λ (j : ℕ). decimalFrom j n []) e
+pub decimal_last : (k n : ℕ) → k ≡ 0 → decimal_from k n [] ≡ (48 + n % 10) ∷ []
+unfolding decimal_from
+decimal_last k n e = ap (λ (j : ℕ). decimal_from j n []) e
 
-pub decimal-one : (k n : ℕ) → n < 10 → decimalFrom k n [] ≡ (48 + n % 10) ∷ []
-unfolding decimalFrom
-decimal-one zero n h = refl
-decimal-one (suc k) n h =
+pub decimal_one : (k n : ℕ) → n < 10 → decimal_from k n [] ≡ (48 + n % 10) ∷ []
+unfolding decimal_from
+decimal_one zero n h = refl
+decimal_one (suc k) n h =
     let d = 48 + n % 10 in
     let same : 48 + n ≡ d = omega arith in
-    ap (λ (b : Bool). cond b ((48 + n) ∷ []) (decimalFrom k (n / 10) (d ∷ []))) (lt-ltb n 10 h) ∙ ap (λ (x : ℕ). x ∷ []) same
+    ap (λ (b : Bool). cond b ((48 + n) ∷ []) (decimal_from k (n / 10) (d ∷ []))) (lt-ltb n 10 h) ∙ ap (λ (x : ℕ). x ∷ []) same
 
-pub decimal-more : (k n : ℕ) → 0 < k → 10 ≤ n → decimalFrom k n [] ≡ decimalFrom (k - 1) (n / 10) [] ++ (48 + n % 10) ∷ []
-unfolding decimalFrom
-decimal-more zero n g h = absurd (omega arith)
-decimal-more (suc k) n g h =
+pub decimal_more : (k n : ℕ) → 0 < k → 10 ≤ n → decimal_from k n [] ≡ decimal_from (k - 1) (n / 10) [] ++ (48 + n % 10) ∷ []
+unfolding decimal_from
+decimal_more zero n g h = absurd (omega arith)
+decimal_more (suc k) n g h =
     let d = 48 + n % 10 in
     let less : k ≡ suc k - 1 = omega arith in
-    ap (λ (b : Bool). cond b ((48 + n) ∷ []) (decimalFrom k (n / 10) (d ∷ []))) (le-ltb n 10 h)
-    ∙ decimal-before k (n / 10) (d ∷ []) ∙ ap (λ (j : ℕ). decimalFrom j (n / 10) [] ++ d ∷ []) less
+    ap (λ (b : Bool). cond b ((48 + n) ∷ []) (decimal_from k (n / 10) (d ∷ []))) (le-ltb n 10 h)
+    ∙ decimal_before k (n / 10) (d ∷ []) ∙ ap (λ (j : ℕ). decimal_from j (n / 10) [] ++ d ∷ []) less
 
 -- ---- hexadecimal
 
-hex-before : (k n : ℕ) (after : List ℕ) → hexFrom k n after ≡ hexFrom k n [] ++ after
-unfolding hexFrom
-hex-before zero n after = refl
-hex-before (suc k) n after =
-    let d = hexDigit (n % 16) in
-    hex-before k (n / 16) (d ∷ after) ∙ sym (append_assoc (hexFrom k (n / 16) []) (d ∷ []) after)
-    ∙ ap (λ (s : List ℕ). s ++ after) (sym (hex-before k (n / 16) (d ∷ [])))
+hex_before : (k n : ℕ) (after : List ℕ) → hex_from k n after ≡ hex_from k n [] ++ after
+unfolding hex_from
+hex_before zero n after = refl
+hex_before (suc k) n after =
+    let d = hex_digit (n % 16) in
+    hex_before k (n / 16) (d ∷ after) ∙ sym (append_assoc (hex_from k (n / 16) []) (d ∷ []) after)
+    ∙ ap (λ (s : List ℕ). s ++ after) (sym (hex_before k (n / 16) (d ∷ [])))
 
-pub hex-none : (k n : ℕ) → k ≡ 0 → hexFrom k n [] ≡ []
-unfolding hexFrom
-hex-none k n e = ap (λ (j : ℕ). hexFrom j n []) e
+pub hex_none : (k n : ℕ) → k ≡ 0 → hex_from k n [] ≡ []
+unfolding hex_from
+hex_none k n e = ap (λ (j : ℕ). hex_from j n []) e
 
-pub hex-more : (k n : ℕ) → 0 < k → hexFrom k n [] ≡ hexFrom (k - 1) (n / 16) [] ++ hexDigit (n % 16) ∷ []
-unfolding hexFrom
-hex-more zero n g = absurd (omega arith)
-hex-more (suc k) n g =
+pub hex_more : (k n : ℕ) → 0 < k → hex_from k n [] ≡ hex_from (k - 1) (n / 16) [] ++ hex_digit (n % 16) ∷ []
+unfolding hex_from
+hex_more zero n g = absurd (omega arith)
+hex_more (suc k) n g =
     let less : k ≡ suc k - 1 = omega arith in
-    hex-before k (n / 16) (hexDigit (n % 16) ∷ []) ∙ ap (λ (j : ℕ). hexFrom j (n / 16) [] ++ hexDigit (n % 16) ∷ []) less
+    hex_before k (n / 16) (hex_digit (n % 16) ∷ []) ∙ ap (λ (j : ℕ). hex_from j (n / 16) [] ++ hex_digit (n % 16) ∷ []) less
 
-pub hex-small : (d : ℕ) → d < 10 → 48 + d ≡ hexDigit d
-unfolding hexDigit
-hex-small d h = sym (ap (λ (b : Bool). cond b (48 + d) (55 + d)) (lt-ltb d 10 h))
+pub hex_small : (d : ℕ) → d < 10 → 48 + d ≡ hex_digit d
+unfolding hex_digit
+hex_small d h = sym (ap (λ (b : Bool). cond b (48 + d) (55 + d)) (lt-ltb d 10 h))
 
-pub hex-letter : (d : ℕ) → 10 ≤ d → 55 + d ≡ hexDigit d
-unfolding hexDigit
-hex-letter d h = sym (ap (λ (b : Bool). cond b (48 + d) (55 + d)) (le-ltb d 10 h))
+pub hex_letter : (d : ℕ) → 10 ≤ d → 55 + d ≡ hex_digit d
+unfolding hex_digit
+hex_letter d h = sym (ap (λ (b : Bool). cond b (48 + d) (55 + d)) (le-ltb d 10 h))
 
 -- ---- whole numbers and floats
 
-pub decimal-all : (n : ℕ) → decimalFrom 19 n [] ≡ decimal n
+pub decimal_all : (n : ℕ) → decimal_from 19 n [] ≡ decimal n
 unfolding decimal
-decimal-all n = refl
+decimal_all n = refl
 
-pub bits-all : (x : Float) {b : ℕ} → b ≡ to_bits binary64 x → hexFrom 16 b [] ≡ bitsText x
-unfolding bitsText
-bits-all x e = ap (λ (n : ℕ). hexFrom 16 n []) e
+pub bits_all : (x : Float) {b : ℕ} → b ≡ to_bits binary64 x → hex_from 16 b [] ≡ bits_text x
+unfolding bits_text
+bits_all x e = ap (λ (n : ℕ). hex_from 16 n []) e

@@ -7,49 +7,49 @@ use native.Mathlib.Omega.{arith}
 use lib.ListN.{length, get_or, drop, length-drop}
 use lib.Seq.{drop-cons}
 use lib.Ieee.{Float}
-use Rattle.printing.specs.Text.{space, decimal, bitsText, counts, floats, line, matchLines}
+use Rattle.printing.specs.Text.{space, decimal, bits_text, counts, floats, line, match_lines}
 use Rattle.printing.specs.Laying.{Laid, pushed, Lays}
-use Rattle.printing.proofs.Pushes.{as-text, after}
+use Rattle.printing.proofs.Pushes.{as_text, after}
 
 -- ---- numbers
 
-pub count-one : (n : ℕ) → (space ∷ []) ++ decimal n ≡ counts (n ∷ [])
+pub count_one : (n : ℕ) → (space ∷ []) ++ decimal n ≡ counts (n ∷ [])
 unfolding counts
-count-one n = ap (λ (l : List ℕ). space ∷ l) (sym (append-nil (decimal n)))
+count_one n = ap (λ (l : List ℕ). space ∷ l) (sym (append-nil (decimal n)))
 
-pub counts-cons : (n : ℕ) (ns : List ℕ) → counts (n ∷ ns) ≡ counts (n ∷ []) ++ counts ns
+pub counts_cons : (n : ℕ) (ns : List ℕ) → counts (n ∷ ns) ≡ counts (n ∷ []) ++ counts ns
 unfolding counts
-counts-cons n ns = ap (λ (l : List ℕ). space ∷ l ++ counts ns) (sym (append-nil (decimal n)))
+counts_cons n ns = ap (λ (l : List ℕ). space ∷ l ++ counts ns) (sym (append-nil (decimal n)))
 
-pub counts-none : counts [] ≡ []
+pub counts_none : counts [] ≡ []
 unfolding counts
-counts-none = refl
+counts_none = refl
 
-pub float_one : (x : Float) → (space ∷ []) ++ bitsText x ≡ floats (x ∷ [])
+pub float_one : (x : Float) → (space ∷ []) ++ bits_text x ≡ floats (x ∷ [])
 unfolding floats
-float_one x = ap (λ (l : List ℕ). space ∷ l) (sym (append-nil (bitsText x)))
+float_one x = ap (λ (l : List ℕ). space ∷ l) (sym (append-nil (bits_text x)))
 
-pub floats-cons : (x : Float) (xs : List Float) → floats (x ∷ xs) ≡ floats (x ∷ []) ++ floats xs
+pub floats_cons : (x : Float) (xs : List Float) → floats (x ∷ xs) ≡ floats (x ∷ []) ++ floats xs
 unfolding floats
-floats-cons x xs = ap (λ (l : List ℕ). space ∷ l ++ floats xs) (sym (append-nil (bitsText x)))
+floats_cons x xs = ap (λ (l : List ℕ). space ∷ l ++ floats xs) (sym (append-nil (bits_text x)))
 
-pub floats-none : floats [] ≡ []
+pub floats_none : floats [] ≡ []
 unfolding floats
-floats-none = refl
+floats_none = refl
 
 -- ---- matches
 
-few : (l : List ℕ) → length l < 2 → matchLines l ≡ []
-unfolding matchLines
+few : (l : List ℕ) → length l < 2 → match_lines l ≡ []
+unfolding match_lines
 few [] h = refl
 few (s ∷ []) h = refl
 few (s ∷ d ∷ l) h = absurd (omega arith)
 
-module _ (ms : List ℕ) (i : ℕ) {whole x : Laid} (rest : Lays (matchLines (drop i ms)) x whole) where
-  pub match-turn : {y : Laid} → i + 2 ≤ length ms → Lays (line (109 ∷ []) (counts (get_or ms i 0 ∷ get_or ms (i + 1) 0 ∷ []))) x y
-      → Lays (matchLines (drop (i + 2) ms)) y whole
-  unfolding matchLines
-  match-turn h e =
+module _ (ms : List ℕ) (i : ℕ) {whole x : Laid} (rest : Lays (match_lines (drop i ms)) x whole) where
+  pub match_turn : {y : Laid} → i + 2 ≤ length ms → Lays (line (109 ∷ []) (counts (get_or ms i 0 ∷ get_or ms (i + 1) 0 ∷ []))) x y
+      → Lays (match_lines (drop (i + 2) ms)) y whole
+  unfolding match_lines
+  match_turn h e =
       let first : i < length ms = omega arith in
       let second : suc i < length ms = omega arith in
       let on : suc (suc i) ≡ i + 2 = omega arith in
@@ -58,10 +58,10 @@ module _ (ms : List ℕ) (i : ℕ) {whole x : Laid} (rest : Lays (matchLines (dr
       ∙ ap (λ (l : List ℕ). get_or ms i 0 ∷ l) (drop-cons ms (suc i) 0 second)
       ∙ ap (λ (k : ℕ). get_or ms i 0 ∷ get_or ms k 0 ∷ drop (suc (suc i)) ms) (sym (add-one i))
       ∙ ap (λ (k : ℕ). get_or ms i 0 ∷ get_or ms (i + 1) 0 ∷ drop k ms) on in
-      after e (as-text (ap matchLines split) rest)
+      after e (as_text (ap match_lines split) rest)
 
-  pub matches-end : {text : List ℕ} {y : Laid} → length ms - i < 2 → Lays text y whole → Lays text y x
+  pub matches_end : {text : List ℕ} {y : Laid} → length ms - i < 2 → Lays text y whole → Lays text y x
   unfolding pushed
-  matches-end h all =
+  matches_end h all =
       let short : length (drop i ms) < 2 = omega (arith, length-drop i ms) in
       record { so = sym (rest.so ∙ ap (λ (t : List ℕ). pushed t x) (few (drop i ms) short)) ∙ all.so }

@@ -1,4 +1,4 @@
--- Text laid into a list piece by piece: two pieces are one, a list of things goes one by one, and all of it is `setFrom`. Assumes nothing.
+-- Text laid into a list piece by piece: two pieces are one, a list of things goes one by one, and all of it is `set_from`. Assumes nothing.
 use mathlib.Core.Path.{◌≡◌, refl, sym, ap, ◌∙◌}
 use mathlib.Core.Bool.{Bool, cond}
 use mathlib.Core.List.{List, [], ◌∷◌, ◌++◌}
@@ -10,77 +10,77 @@ use native.Mathlib.Omega.{arith}
 use borrow.Author.Tests.{lt-ltb, le-ltb}
 use lib.ListN.{length, get_or, set, drop, length-set, drop_of_length-le}
 use lib.Seq.{drop-cons, set_out}
-use Rattle.printing.specs.Text.{setFrom}
+use Rattle.printing.specs.Text.{set_from}
 use Rattle.printing.specs.Laying.{Laid, laid, put, pushed, Lays}
 
 -- ---- one byte
 
 module _ (b i : ℕ) (l : List ℕ) where
-  put-room : i < length l → put b (laid i l) ≡ laid (i + 1) (set l i b)
+  put_room : i < length l → put b (laid i l) ≡ laid (i + 1) (set l i b)
   unfolding put
-  put-room h = ap (λ (t : Bool). cond t (laid (i + 1) (set l i b)) (laid i l)) (lt-ltb i (length l) h)
+  put_room h = ap (λ (t : Bool). cond t (laid (i + 1) (set l i b)) (laid i l)) (lt-ltb i (length l) h)
 
   put_full : length l ≤ i → put b (laid i l) ≡ laid i l
   unfolding put
   put_full h = ap (λ (t : Bool). cond t (laid (i + 1) (set l i b)) (laid i l)) (le-ltb i (length l) h)
 
-  pub byte-written : i < length l → Lays (b ∷ []) (laid i l) (laid (i + 1) (set l i b))
+  pub byte_written : i < length l → Lays (b ∷ []) (laid i l) (laid (i + 1) (set l i b))
   unfolding pushed
-  byte-written h = record { so = sym (put-room h) }
+  byte_written h = record { so = sym (put_room h) }
 
-  pub byte-lost : length l ≤ i → Lays (b ∷ []) (laid i l) (laid i l)
+  pub byte_lost : length l ≤ i → Lays (b ∷ []) (laid i l) (laid i l)
   unfolding pushed
-  byte-lost h = record { so = sym (put_full h) }
+  byte_lost h = record { so = sym (put_full h) }
 
 -- ---- one piece after another
 
-pushed-append : (s t : List ℕ) (x : Laid) → pushed (s ++ t) x ≡ pushed t (pushed s x)
+pushed_append : (s t : List ℕ) (x : Laid) → pushed (s ++ t) x ≡ pushed t (pushed s x)
 unfolding pushed
-pushed-append [] t x = refl
-pushed-append (b ∷ s) t x = pushed-append s t (put b x)
+pushed_append [] t x = refl
+pushed_append (b ∷ s) t x = pushed_append s t (put b x)
 
 pub nothing : (x : Laid) → Lays [] x x
 unfolding pushed
 nothing x = record { so = refl }
 
 pub then : {s t : List ℕ} {x y z : Laid} → Lays s x y → Lays t y z → Lays (s ++ t) x z
-then {s} {t} {x} e f = record { so = f.so ∙ ap (pushed t) e.so ∙ sym (pushed-append s t x) }
+then {s} {t} {x} e f = record { so = f.so ∙ ap (pushed t) e.so ∙ sym (pushed_append s t x) }
 
-pub as-text : {s t : List ℕ} {x y : Laid} → s ≡ t → Lays s x y → Lays t x y
-as-text {x = x} e f = record { so = f.so ∙ ap (λ (l : List ℕ). pushed l x) e }
+pub as_text : {s t : List ℕ} {x y : Laid} → s ≡ t → Lays s x y → Lays t x y
+as_text {x = x} e f = record { so = f.so ∙ ap (λ (l : List ℕ). pushed l x) e }
 
 -- What is left once the first piece is laid.
 pub after : {s t : List ℕ} {x y z : Laid} → Lays s x y → Lays (s ++ t) x z → Lays t y z
-after {s} {t} {x} e f = record { so = f.so ∙ pushed-append s t x ∙ ap (pushed t) (sym e.so) }
+after {s} {t} {x} e f = record { so = f.so ∙ pushed_append s t x ∙ ap (pushed t) (sym e.so) }
 
 pub begun : (text : List ℕ) (x : Laid) → Lays text x (pushed text x)
 begun text x = record { so = refl }
 
 -- Text f of a list, of one thing after the other.
-module _ {A : Type 0} (f : List A → List ℕ) (f-cons : (a : A) (xs : List A) → f (a ∷ xs) ≡ f (a ∷ []) ++ f xs) (xs : List A) (i : ℕ) {whole s : Laid}
+module _ {A : Type 0} (f : List A → List ℕ) (f_cons : (a : A) (xs : List A) → f (a ∷ xs) ≡ f (a ∷ []) ++ f xs) (xs : List A) (i : ℕ) {whole s : Laid}
     (rest : Lays (f (drop i xs)) s whole) where
   pub turn : (d : A) {s' : Laid} → i < length xs → Lays (f (get_or xs i d ∷ [])) s s' → Lays (f (drop (i + 1) xs)) s' whole
   turn d h e =
       let a = get_or xs i d in
       let more : List A = drop (suc i) xs in
-      let split : f (drop i xs) ≡ f (a ∷ []) ++ f more = ap f (drop-cons xs i d h) ∙ f-cons a more in
-      as-text (ap (λ (k : ℕ). f (drop k xs)) (sym (add-one i))) (after e (as-text split rest))
+      let split : f (drop i xs) ≡ f (a ∷ []) ++ f more = ap f (drop-cons xs i d h) ∙ f_cons a more in
+      as_text (ap (λ (k : ℕ). f (drop k xs)) (sym (add-one i))) (after e (as_text split rest))
 
-  pub turns-end : {text : List ℕ} {x : Laid} → f [] ≡ [] → length xs ≤ i → Lays text x whole → Lays text x s
+  pub turns_end : {text : List ℕ} {x : Laid} → f [] ≡ [] → length xs ≤ i → Lays text x whole → Lays text x s
   unfolding pushed
-  turns-end e h all = record { so = sym (rest.so ∙ ap (λ (t : List ℕ). pushed t s) (ap f (drop_of_length-le xs h) ∙ e)) ∙ all.so }
+  turns_end e h all = record { so = sym (rest.so ∙ ap (λ (t : List ℕ). pushed t s) (ap f (drop_of_length-le xs h) ∙ e)) ∙ all.so }
 
 -- ---- all of it
 
-past_end : (i : ℕ) (bs l : List ℕ) → length l ≤ i → setFrom i bs l ≡ l
-unfolding setFrom
+past_end : (i : ℕ) (bs l : List ℕ) → length l ≤ i → set_from i bs l ≡ l
+unfolding set_from
 past_end i [] l h = refl
 past_end i (b ∷ bs) l h =
     let on : length l ≤ suc i = omega arith in
-    ap (setFrom (suc i) bs) (set_out l i b h) ∙ past_end (suc i) bs l on
+    ap (set_from (suc i) bs) (set_out l i b h) ∙ past_end (suc i) bs l on
 
-pub laid_from : (i : ℕ) (bs l : List ℕ) → i ≤ length l → pushed bs (laid i l) ≡ laid (min (i + length bs) (length l)) (setFrom i bs l)
-unfolding setFrom pushed
+pub laid_from : (i : ℕ) (bs l : List ℕ) → i ≤ length l → pushed bs (laid i l) ≡ laid (min (i + length bs) (length l)) (set_from i bs l)
+unfolding set_from pushed
 laid_from i [] l h = ap (λ (k : ℕ). laid k l) (omega arith)
 laid_from i (b ∷ bs) l h = ⊎_elim
     (λ end.
@@ -89,14 +89,14 @@ laid_from i (b ∷ bs) l h = ⊎_elim
     let count : min (i + length bs) (length l) ≡ min (i + suc (length bs)) (length l) = omega arith in
     ap (pushed bs) (put_full b i l full)
     ∙ laid_from i bs l h
-    ∙ ap (λ (k : ℕ). laid k (setFrom i bs l)) count
+    ∙ ap (λ (k : ℕ). laid k (set_from i bs l)) count
     ∙ ap (laid (min (i + suc (length bs)) (length l)))
-    (past_end i bs l full ∙ sym (past_end (suc i) bs l on) ∙ ap (setFrom (suc i) bs) (sym (set_out l i b full))))
+    (past_end i bs l full ∙ sym (past_end (suc i) bs l on) ∙ ap (set_from (suc i) bs) (sym (set_out l i b full))))
     (λ room.
     let e : length (set l i b) ≡ length l = length-set l i b in
     let on : suc i ≤ length (set l i b) = omega arith in
     let count : min (suc i + length bs) (length (set l i b)) ≡ min (i + suc (length bs)) (length l) = omega arith in
-    ap (pushed bs) (put-room b i l room ∙ ap (λ (k : ℕ). laid k (set l i b)) (add-one i))
+    ap (pushed bs) (put_room b i l room ∙ ap (λ (k : ℕ). laid k (set l i b)) (add-one i))
     ∙ laid_from (suc i) bs (set l i b) on
-    ∙ ap (λ (k : ℕ). laid k (setFrom (suc i) bs (set l i b))) count)
+    ∙ ap (λ (k : ℕ). laid k (set_from (suc i) bs (set l i b))) count)
     (eq-or-lt_of_le h)

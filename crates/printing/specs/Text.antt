@@ -7,29 +7,29 @@ use Rattle.wcs_refine.specs.declared.WcsRefineResult.{WcsRefineResult}
 -- ---- numbers
 
 -- "Counts and indices are decimal": the digits of n before those that stand already; twenty hold every number of 64 bits.
-unfoldable pub decimalFrom : ℕ → ℕ → List ℕ → List ℕ
-decimalFrom zero n after = (48 + n % 10) ∷ after
-decimalFrom (suc k) n after = cond (ltb n 10) ((48 + n) ∷ after) (decimalFrom k (n / 10) ((48 + n % 10) ∷ after))
+unfoldable pub decimal_from : ℕ → ℕ → List ℕ → List ℕ
+decimal_from zero n after = (48 + n % 10) ∷ after
+decimal_from (suc k) n after = cond (ltb n 10) ((48 + n) ∷ after) (decimal_from k (n / 10) ((48 + n % 10) ∷ after))
 
 -- A number in decimal.
 unfoldable pub decimal : ℕ → List ℕ
-unfolding decimalFrom
-decimal n = decimalFrom 19 n []
+unfolding decimal_from
+decimal n = decimal_from 19 n []
 
 -- One hexadecimal digit, in upper case.
-unfoldable pub hexDigit : ℕ → ℕ
-hexDigit d = cond (ltb d 10) (48 + d) (55 + d)
+unfoldable pub hex_digit : ℕ → ℕ
+hex_digit d = cond (ltb d 10) (48 + d) (55 + d)
 
 -- The k lowest hexadecimal digits of n, before those that stand already.
-unfoldable pub hexFrom : ℕ → ℕ → List ℕ → List ℕ
-unfolding hexDigit
-hexFrom zero n after = after
-hexFrom (suc k) n after = hexFrom k (n / 16) (hexDigit (n % 16) ∷ after)
+unfoldable pub hex_from : ℕ → ℕ → List ℕ → List ℕ
+unfolding hex_digit
+hex_from zero n after = after
+hex_from (suc k) n after = hex_from k (n / 16) (hex_digit (n % 16) ∷ after)
 
 -- "floats are hexadecimal bits": sixteen digits; a NaN has those of the one made here.
-unfoldable pub bitsText : Float → List ℕ
-unfolding hexFrom
-bitsText x = hexFrom 16 (to_bits binary64 x) []
+unfoldable pub bits_text : Float → List ℕ
+unfolding hex_from
+bits_text x = hex_from 16 (to_bits binary64 x) []
 
 -- ---- lines
 
@@ -48,68 +48,68 @@ counts (n ∷ ns) = space ∷ decimal n ++ counts ns
 
 -- The same of floats.
 unfoldable pub floats : List Float → List ℕ
-unfolding bitsText
+unfolding bits_text
 floats [] = []
-floats (x ∷ xs) = space ∷ bitsText x ++ floats xs
+floats (x ∷ xs) = space ∷ bits_text x ++ floats xs
 
 -- A line: its word, what follows, and the end of the line.
 abbrev pub line : List ℕ → List ℕ → List ℕ
 line word more = word ++ more ++ newline ∷ []
 
 -- "Then a line `m`, spot, direction for each match."
-unfoldable pub matchLines : List ℕ → List ℕ
+unfoldable pub match_lines : List ℕ → List ℕ
 unfolding counts
-matchLines [] = []
-matchLines (s ∷ []) = []
-matchLines (s ∷ d ∷ ms) = line (109 ∷ []) (counts (s ∷ d ∷ [])) ++ matchLines ms
+match_lines [] = []
+match_lines (s ∷ []) = []
+match_lines (s ∷ d ∷ ms) = line (109 ∷ []) (counts (s ∷ d ∷ [])) ++ match_lines ms
 
 -- ---- an answer
 
 -- the words `ok`, `pose`, `cd`, `rms`, `cov` and `no`
-abbrev pub okWord : List ℕ
-okWord = 111 ∷ 107 ∷ []
+abbrev pub ok_word : List ℕ
+ok_word = 111 ∷ 107 ∷ []
 
-abbrev pub poseWord : List ℕ
-poseWord = 112 ∷ 111 ∷ 115 ∷ 101 ∷ []
+abbrev pub pose_word : List ℕ
+pose_word = 112 ∷ 111 ∷ 115 ∷ 101 ∷ []
 
-abbrev pub cdWord : List ℕ
-cdWord = 99 ∷ 100 ∷ []
+abbrev pub cd_word : List ℕ
+cd_word = 99 ∷ 100 ∷ []
 
-abbrev pub rmsWord : List ℕ
-rmsWord = 114 ∷ 109 ∷ 115 ∷ []
+abbrev pub rms_word : List ℕ
+rms_word = 114 ∷ 109 ∷ 115 ∷ []
 
-abbrev pub covWord : List ℕ
-covWord = 99 ∷ 111 ∷ 118 ∷ []
+abbrev pub cov_word : List ℕ
+cov_word = 99 ∷ 111 ∷ 118 ∷ []
 
-abbrev pub noWord : List ℕ
-noWord = 110 ∷ 111 ∷ []
+abbrev pub no_word : List ℕ
+no_word = 110 ∷ 111 ∷ []
 
 -- "Refused: `no` and the number."
-unfoldable pub refusedText : ℕ → List ℕ
+unfoldable pub refused_text : ℕ → List ℕ
 unfolding counts
-refusedText n = line noWord (counts (n ∷ []))
+refused_text n = line no_word (counts (n ∷ []))
 
 -- "Fields: matches, rounds, passes, queries; theta, RA, Dec, scale; `rms` gives the error, `rmse_rad`; `cd` and `cov` give the two matrices by rows."
-unfoldable pub acceptedText : WcsRefineResult → List ℕ → List ℕ
-unfolding counts floats matchLines
-acceptedText r ms =
-    line okWord (counts (r.matches ∷ r.rounds ∷ r.passes ∷ r.queries ∷ []))
-    ++ line poseWord (floats (r.pose.theta ∷ r.pose.ra ∷ r.pose.dec ∷ r.pose.scale ∷ []))
-    ++ line cdWord (floats (get_or r.cd0 0 nan ∷ get_or r.cd0 1 nan ∷ get_or r.cd1 0 nan ∷ get_or r.cd1 1 nan ∷ []))
-    ++ line rmsWord (floats (r.rmse_rad ∷ []))
-    ++ line covWord (floats (get_or r.cov0 0 nan ∷ get_or r.cov0 1 nan ∷ get_or r.cov0 2 nan
+unfoldable pub accepted_text : WcsRefineResult → List ℕ → List ℕ
+unfolding counts floats match_lines
+accepted_text r ms =
+    line ok_word (counts (r.matches ∷ r.rounds ∷ r.passes ∷ r.queries ∷ []))
+    ++ line pose_word (floats (r.pose.theta ∷ r.pose.ra ∷ r.pose.dec ∷ r.pose.scale ∷ []))
+    ++ line cd_word (floats (get_or r.cd0 0 nan ∷ get_or r.cd0 1 nan ∷ get_or r.cd1 0 nan ∷ get_or r.cd1 1 nan ∷ []))
+    ++ line rms_word (floats (r.rmse_rad ∷ []))
+    ++ line cov_word (floats (get_or r.cov0 0 nan ∷ get_or r.cov0 1 nan ∷ get_or r.cov0 2 nan
     ∷ get_or r.cov1 0 nan ∷ get_or r.cov1 1 nan ∷ get_or r.cov1 2 nan
     ∷ get_or r.cov2 0 nan ∷ get_or r.cov2 1 nan ∷ get_or r.cov2 2 nan ∷ []))
-    ++ matchLines ms
+    ++ match_lines ms
 
 -- The text of an answer, with the matches that it reports.
-unfoldable pub answerText : WcsRefineResult → List ℕ → List ℕ
-unfolding refusedText acceptedText
-answerText r ms = cond (ltb 0 r.refusal) (refusedText r.refusal) (acceptedText r ms)
+unfoldable pub answer_text : WcsRefineResult → List ℕ → List ℕ
+unfolding refused_text accepted_text
+answer_text r ms = cond (ltb 0 r.refusal) (refused_text r.refusal) (accepted_text r ms)
 
 -- ---- written into a list
 
 -- From place i on, byte after byte, as far as the list has the places.
-unfoldable pub setFrom : ℕ → List ℕ → List ℕ → List ℕ
-setFrom i [] l = l
-setFrom i (b ∷ bs) l = setFrom (suc i) bs (set l i b)
+unfoldable pub set_from : ℕ → List ℕ → List ℕ → List ℕ
+set_from i [] l = l
+set_from i (b ∷ bs) l = set_from (suc i) bs (set l i b)

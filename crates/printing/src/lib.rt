@@ -3,7 +3,7 @@
 
 ghost use Rattle.std.specs.Prelude.{◌≡◌, min, length};
 ghost use Rattle.printing.specs.Laying.{laid, Lays};
-ghost use Rattle.printing.specs.Text.{acceptedText, answerText, refusedText, setFrom};
+ghost use Rattle.printing.specs.Text.{accepted_text, answer_text, refused_text, set_from};
 
 use wcs_refine::WcsRefineResult;
 
@@ -14,7 +14,7 @@ mod fields; // fields.rt: the lines of an answer
 
 // Line after line, from the front of `out`.
 fn accepted(r: WcsRefineResult, matches: &[usize], out: &mut [u8]) -> usize
-    ensures { Lays (acceptedText r matches.now)
+    ensures { Lays (accepted_text r matches.now)
         (laid 0 out.old) (laid result out.new) }
 {
     let pose = r.pose;
@@ -34,8 +34,8 @@ fn accepted(r: WcsRefineResult, matches: &[usize], out: &mut [u8]) -> usize
 // The text of an answer and of the matches that it reports, spot then direction, at the front of `out`, as far as that has places. How many
 // bytes of it hold text is the result.
 pub fn print_answer(r: WcsRefineResult, matches: &[usize], out: &mut [u8]) -> usize
-    ensures value { result ≡ min (length (answerText r matches.now)) (length out.old) }
-    ensures out_after { out.new ≡ setFrom 0 (answerText r matches.now) out.old }
+    ensures value { result ≡ min (length (answer_text r matches.now)) (length out.old) }
+    ensures out_after { out.new ≡ set_from 0 (answer_text r matches.now) out.old }
 {
     if 0 < r.refusal {
         return fields::refused(r.refusal, out, 0);
@@ -45,8 +45,8 @@ pub fn print_answer(r: WcsRefineResult, matches: &[usize], out: &mut [u8]) -> us
 
 // The same of a refusal by its number alone, for what is turned away before there is an answer.
 pub fn print_refusal(number: usize, out: &mut [u8]) -> usize
-    ensures value { result ≡ min (length (refusedText number)) (length out.old) }
-    ensures out_after { out.new ≡ setFrom 0 (refusedText number) out.old }
+    ensures value { result ≡ min (length (refused_text number)) (length out.old) }
+    ensures out_after { out.new ≡ set_from 0 (refused_text number) out.old }
 {
     fields::refused(number, out, 0)
 }

@@ -1,7 +1,7 @@
 // Lines: a word, numbers with a space before each, and the end of the line.
 ghost use Rattle.std.specs.Prelude.{[], ◌∷◌};
 ghost use Rattle.printing.specs.Laying.{laid, Lays};
-ghost use Rattle.printing.specs.Text.{counts, floats, line, matchLines};
+ghost use Rattle.printing.specs.Text.{counts, floats, line, match_lines};
 
 use crate::laying::{push_byte, push_bytes};
 use crate::numbers::{push_decimal, push_hex};
@@ -76,7 +76,7 @@ fn match_line(spot: usize, direction: usize, out: &mut [u8], at: usize) -> usize
 
 // A line for each match.
 pub(crate) fn match_lines(ms: &[usize], out: &mut [u8], at: usize) -> usize
-    ensures { Lays (matchLines ms.now) (laid at out.old) (laid result out.new) }
+    ensures { Lays (match_lines ms.now) (laid at out.old) (laid result out.new) }
 {
     let mut to = at;
     let mut i: usize = 0;

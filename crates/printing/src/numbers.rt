@@ -1,7 +1,7 @@
 // Whole numbers in decimal digits, floats in the hexadecimal digits of their bits.
 ghost use Rattle.std.specs.Prelude.{◌≡◌, [], ◌+◌, ◌%◌, ◌<◌};
 ghost use Rattle.printing.specs.Laying.{laid, Lays};
-ghost use Rattle.printing.specs.Text.{decimalFrom, decimal, hexDigit, hexFrom, bitsText};
+ghost use Rattle.printing.specs.Text.{decimal_from, decimal, hex_digit, hex_from, bits_text};
 
 use crate::laying::push_byte;
 use rounding::to_bits64;
@@ -16,7 +16,7 @@ fn last_digit(n: usize) -> u8
 
 // At most k + 1 digits, those of n / 10 before the last one.
 fn push_digits(n: usize, k: usize, out: &mut [u8], at: usize) -> usize
-    ensures { Lays (decimalFrom k n []) (laid at out.old) (laid result out.new) }
+    ensures { Lays (decimal_from k n []) (laid at out.old) (laid result out.new) }
 {
     let last = last_digit(n);
     if k == 0 {
@@ -39,7 +39,7 @@ pub(crate) fn push_decimal(n: usize, out: &mut [u8], at: usize) -> usize
 // In upper case: 55 and ten is the letter A.
 fn hex_digit(d: u64) -> u8
     requires { d < 16 }
-    ensures { result ≡ hexDigit d }
+    ensures { result ≡ hex_digit d }
 {
     let x = d as u8;
     if x < 10 {
@@ -50,7 +50,7 @@ fn hex_digit(d: u64) -> u8
 
 // The k lowest digits, those of n / 16 before the last one.
 fn push_hex_digits(n: u64, k: usize, out: &mut [u8], at: usize) -> usize
-    ensures { Lays (hexFrom k n []) (laid at out.old) (laid result out.new) }
+    ensures { Lays (hex_from k n []) (laid at out.old) (laid result out.new) }
 {
     if k == 0 {
         return at;
@@ -61,7 +61,7 @@ fn push_hex_digits(n: u64, k: usize, out: &mut [u8], at: usize) -> usize
 }
 
 pub(crate) fn push_hex(x: f64, out: &mut [u8], at: usize) -> usize
-    ensures { Lays (bitsText x) (laid at out.old) (laid result out.new) }
+    ensures { Lays (bits_text x) (laid at out.old) (laid result out.new) }
 {
     let bits = to_bits64(x);
     push_hex_digits(bits, 16, out, at)

@@ -29,64 +29,64 @@ unfolding sin cos
 boresight ra dec = cos dec ⊗ cos ra ∷ cos dec ⊗ sin ra ∷ sin dec ∷ []
 
 -- camera_rows_f64: the rows [cam_x, cam_y, boresight]
-unfoldable pub cameraRows : Float → Float → Float → List (List Float)
+unfoldable pub camera_rows : Float → Float → Float → List (List Float)
 unfolding east north boresight combined normalised
-cameraRows theta ra dec =
+camera_rows theta ra dec =
     normalised (combined (east ra) (cos theta) (north ra dec) (sin theta))
     ∷ normalised (combined (east ra) (neg (sin theta)) (north ra dec) (cos theta))
     ∷ boresight ra dec
     ∷ []
 
 -- tan_basis: the camera rows at theta 0
-unfoldable pub tanBasis : Float → Float → List (List Float)
-unfolding cameraRows
-tanBasis ra dec = cameraRows zero64 ra dec
+unfoldable pub tan_basis : Float → Float → List (List Float)
+unfolding camera_rows
+tan_basis ra dec = camera_rows zero64 ra dec
 
 -- tan_project_vec: a direction v by its dot products with the basis; widening its f32 components changes no value
-unfoldable pub tanProjectVec : Float → List Float → List (List Float) → Projected
+unfoldable pub tan_project_vec : Float → List Float → List (List Float) → Projected
 unfolding dot divided
-tanProjectVec cut v basis = divided cut (dot (row basis 0) v) (dot (row basis 1) v) (dot (row basis 2) v)
+tan_project_vec cut v basis = divided cut (dot (row basis 0) v) (dot (row basis 1) v) (dot (row basis 2) v)
 
 -- A row in f32: `as f32` of each component.
-unfoldable pub narrowedRow : List Float → List Float
+unfoldable pub narrowed_row : List Float → List Float
 unfolding narrowed
-narrowedRow v = narrowed (at v 0) ∷ narrowed (at v 1) ∷ narrowed (at v 2) ∷ []
+narrowed_row v = narrowed (at v 0) ∷ narrowed (at v 1) ∷ narrowed (at v 2) ∷ []
 
 -- rotation_from_theta_crval: the camera rows in f32
-unfoldable pub rotationFromThetaCrval : Float → Float → Float → List (List Float)
-unfolding cameraRows narrowedRow
-rotationFromThetaCrval theta ra dec =
-    let m = cameraRows theta ra dec in
-    narrowedRow (row m 0) ∷ narrowedRow (row m 1) ∷ narrowedRow (row m 2) ∷ []
+unfoldable pub rotation_from_theta_crval : Float → Float → Float → List (List Float)
+unfolding camera_rows narrowed_row
+rotation_from_theta_crval theta ra dec =
+    let m = camera_rows theta ra dec in
+    narrowed_row (row m 0) ∷ narrowed_row (row m 1) ∷ narrowed_row (row m 2) ∷ []
 
 -- wcs_to_rotation: the mirror is a negative determinant of cd
 unfoldable pub mirrored : List (List Float) → Bool
 mirrored cd = lt (entry cd 0 0 ⊗ entry cd 1 1 ⊖ entry cd 0 1 ⊗ entry cd 1 0) zero64
 
 -- Its `cam_x_icrs_raw`: the camera's x axis before normalising, negated for a mirrored image,
-unfoldable pub rawX : List (List Float) → Float → Float → List Float
+unfoldable pub raw_x : List (List Float) → Float → Float → List Float
 unfolding mirrored combined negated east north
-rawX cd ra dec =
+raw_x cd ra dec =
     let v = combined (east ra) (entry cd 0 0) (north ra dec) (entry cd 1 0) in
     cond (mirrored cd) (negated v) v
 
 -- and its `cam_y_icrs_raw`.
-unfoldable pub rawY : List (List Float) → Float → Float → List Float
+unfoldable pub raw_y : List (List Float) → Float → Float → List Float
 unfolding combined east north
-rawY cd ra dec = combined (east ra) (entry cd 0 1) (north ra dec) (entry cd 1 1)
+raw_y cd ra dec = combined (east ra) (entry cd 0 1) (north ra dec) (entry cd 1 1)
 
 -- Its `fov`: the field of view, 2 atan(ps_x * W / 2), in f32.
-unfoldable pub fieldOfView : Float → ℕ → Float
+unfoldable pub field_of_view : Float → ℕ → Float
 unfolding atan narrowed
-fieldOfView psX width = narrowed (two ⊗ atan (psX ⊗ of_int binary64 (pos width) ⊘ two))
+field_of_view ps_x width = narrowed (two ⊗ atan (ps_x ⊗ of_int binary64 (pos width) ⊘ two))
 
 -- `wcs_to_rotation` whole: the rotation by its rows, the field of view, and the mirror.
-unfoldable pub wcsToRotation : List (List Float) → Float → Float → ℕ → WcsRotation
-unfolding rawX rawY boresight normalised narrowedRow fieldOfView mirrored norm
-wcsToRotation cd ra dec width = record {
-  row_x = narrowedRow (normalised (rawX cd ra dec));
-  row_y = narrowedRow (normalised (rawY cd ra dec));
-  row_z = narrowedRow (boresight ra dec);
-  fov = fieldOfView (norm (rawX cd ra dec)) width;
+unfoldable pub wcs_to_rotation : List (List Float) → Float → Float → ℕ → WcsRotation
+unfolding raw_x raw_y boresight normalised narrowed_row field_of_view mirrored norm
+wcs_to_rotation cd ra dec width = record {
+  row_x = narrowed_row (normalised (raw_x cd ra dec));
+  row_y = narrowed_row (normalised (raw_y cd ra dec));
+  row_z = narrowed_row (boresight ra dec);
+  fov = field_of_view (norm (raw_x cd ra dec)) width;
   parity_flip = mirrored cd;
 }

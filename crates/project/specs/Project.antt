@@ -4,10 +4,10 @@ use Rattle.std.specs.Float.{binary64}
 use Rattle.std.specs.Float.Ieee.{neg, lt, le}
 use Rattle.rounding.specs.Arith.{◌⊕◌, ◌⊖◌, ◌⊗◌, ◌⊘◌, one64}
 use Rattle.rounding.specs.Root.{root}
-use Rattle.rounding.specs.Methods.{clampF}
+use Rattle.rounding.specs.Methods.{clamp_f}
 use Rattle.angles.specs.SinCos.{sin, cos}
 use Rattle.angles.specs.Inverse.{atan, asin, atan2}
-use Rattle.solve.specs.Constants.{planeCut, tiny, minusOne}
+use Rattle.solve.specs.Constants.{plane_cut, tiny, minus_one}
 use Rattle.project.specs.declared.Projected.{Projected}
 use Rattle.project.specs.declared.Projected.TheVariants.{At, Behind}
 use Rattle.project.specs.declared.Sky.{Sky}
@@ -18,42 +18,42 @@ unfoldable pub divided : Float → Float → Float → Float → Projected
 divided cut xi eta denom = cond (le denom cut) Behind (At (xi ⊘ denom) (eta ⊘ denom))
 
 -- tan_project: of (ra, dec) onto the tangent plane at (ra0, dec0)
-unfoldable pub tanProject : Float → Float → Float → Float → Projected
+unfoldable pub tan_project : Float → Float → Float → Float → Projected
 unfolding divided sin cos
-tanProject ra dec ra0 dec0 =
+tan_project ra dec ra0 dec0 =
     let da = ra ⊖ ra0 in
-    divided planeCut
+    divided plane_cut
     (cos dec ⊗ sin da)
     (sin dec ⊗ cos dec0 ⊖ cos dec ⊗ sin dec0 ⊗ cos da)
     (sin dec ⊗ sin dec0 ⊕ cos dec ⊗ cos dec0 ⊗ cos da)
 
 -- inverse_tan_project, off the reference point: c is the angle from it, rho the tangent of c
-unfoldable pub awayFrom : Float → Float → Float → Float → Float → Float → Sky
-unfolding sin cos asin atan2 clampF
-awayFrom xi eta ra0 dec0 rho c = record {
+unfoldable pub away_from : Float → Float → Float → Float → Float → Float → Sky
+unfolding sin cos asin atan2 clamp_f
+away_from xi eta ra0 dec0 rho c = record {
   ra = ra0 ⊕ atan2 (xi ⊗ sin c) (rho ⊗ cos dec0 ⊗ cos c ⊖ eta ⊗ sin dec0 ⊗ sin c);
-  dec = asin (clampF (cos c ⊗ sin dec0 ⊕ eta ⊗ sin c ⊗ cos dec0 ⊘ rho) minusOne one64);
+  dec = asin (clamp_f (cos c ⊗ sin dec0 ⊕ eta ⊗ sin c ⊗ cos dec0 ⊘ rho) minus_one one64);
 }
 
 -- inverse_tan_project: the point of the sky at (xi, eta) of the plane at (ra0, dec0)
-unfoldable pub inverseTanProject : Float → Float → Float → Float → Sky
-unfolding awayFrom atan root
-inverseTanProject xi eta ra0 dec0 =
-    let rhoSq = xi ⊗ xi ⊕ eta ⊗ eta in
-    let rho = root binary64 rhoSq in
-    cond (lt rhoSq tiny) (record { ra = ra0; dec = dec0 }) (awayFrom xi eta ra0 dec0 rho (atan rho))
+unfoldable pub inverse_tan_project : Float → Float → Float → Float → Sky
+unfolding away_from atan root
+inverse_tan_project xi eta ra0 dec0 =
+    let rho_sq = xi ⊗ xi ⊕ eta ⊗ eta in
+    let rho = root binary64 rho_sq in
+    cond (lt rho_sq tiny) (record { ra = ra0; dec = dec0 }) (away_from xi eta ra0 dec0 rho (atan rho))
 
 -- cd_from_theta: from pixels to the plane; with the mirror (parity_flip) the first column is negated
-unfoldable pub cdFromTheta : Float → Float → Bool → List (List Float)
+unfoldable pub cd_from_theta : Float → Float → Bool → List (List Float)
 unfolding sin cos
-cdFromTheta theta ps true =
+cd_from_theta theta ps true =
     (neg ps ⊗ cos theta ∷ neg ps ⊗ sin theta ∷ []) ∷ (neg ps ⊗ sin theta ∷ ps ⊗ cos theta ∷ []) ∷ []
-cdFromTheta theta ps false =
+cd_from_theta theta ps false =
     (ps ⊗ cos theta ∷ neg ps ⊗ sin theta ∷ []) ∷ (ps ⊗ sin theta ∷ ps ⊗ cos theta ∷ []) ∷ []
 
 -- predict_tanplane: the plane point of a spot at (px, py)
-unfoldable pub predictTanplane : Float → Float → Float → Float → Float → Plane
-predictTanplane px py cosT sinT ps = record {
-  xi = ps ⊗ (cosT ⊗ px ⊖ sinT ⊗ py);
-  eta = ps ⊗ (sinT ⊗ px ⊕ cosT ⊗ py);
+unfoldable pub predict_tanplane : Float → Float → Float → Float → Float → Plane
+predict_tanplane px py cos_t sin_t ps = record {
+  xi = ps ⊗ (cos_t ⊗ px ⊖ sin_t ⊗ py);
+  eta = ps ⊗ (sin_t ⊗ px ⊕ cos_t ⊗ py);
 }

@@ -1,7 +1,7 @@
 // The axes of the camera, and directions on them.
 ghost use Rattle.std.specs.Prelude.{◌≡◌, cond, [], ◌∷◌};
 ghost use Rattle.solve.specs.Vector.{entry, dot, norm, normalised, combined, negated};
-ghost use Rattle.project.specs.Camera.{east, north, boresight, cameraRows, tanBasis, tanProjectVec, narrowedRow, rotationFromThetaCrval, mirrored, fieldOfView, wcsToRotation};
+ghost use Rattle.project.specs.Camera.{east, north, boresight, camera_rows, tan_basis, tan_project_vec, narrowed_row, rotation_from_theta_crval, mirrored, field_of_view, wcs_to_rotation};
 
 use crate::{Projected, WcsRotation};
 use angles::{atan, sin_cos};
@@ -75,7 +75,7 @@ pub fn boresight_of(ra: f64, dec: f64) -> [f64; 3]
 
 // The camera's axes as rows: x, y and the boresight.
 pub fn camera_rows_f64(theta: f64, crval_ra: f64, crval_dec: f64) -> [[f64; 3]; 3]
-    ensures { result ≡ cameraRows theta crval_ra crval_dec }
+    ensures { result ≡ camera_rows theta crval_ra crval_dec }
 {
     let p = plane_at(crval_ra, crval_dec);
     let t = sin_cos(theta);
@@ -89,7 +89,7 @@ pub fn camera_rows_f64(theta: f64, crval_ra: f64, crval_dec: f64) -> [[f64; 3]; 
 
 // The basis of the tangent plane at (ra, dec): the camera's axes without roll.
 pub fn tan_basis(ra: f64, dec: f64) -> [[f64; 3]; 3]
-    ensures { result ≡ tanBasis ra dec }
+    ensures { result ≡ tan_basis ra dec }
 {
     camera_rows_f64(0.0, ra, dec)
 }
@@ -97,7 +97,7 @@ pub fn tan_basis(ra: f64, dec: f64) -> [[f64; 3]; 3]
 // Where a direction lies on the tangent plane of a basis. It is asked of every direction in every pass, so the entries are read where they
 // stand, and the denominator is looked at first.
 pub fn tan_project_vec(v: [f32; 3], basis: [[f64; 3]; 3], cut: f64) -> Projected
-    ensures { result ≡ tanProjectVec cut v basis }
+    ensures { result ≡ tan_project_vec cut v basis }
 {
     let x = widen(v[0]);
     let y = widen(v[1]);
@@ -112,7 +112,7 @@ pub fn tan_project_vec(v: [f32; 3], basis: [[f64; 3]; 3], cut: f64) -> Projected
 }
 
 fn narrowed_row(v: [f64; 3]) -> [f32; 3]
-    ensures { result ≡ narrowedRow v }
+    ensures { result ≡ narrowed_row v }
 {
     let x = narrow(v[0]);
     let y = narrow(v[1]);
@@ -122,7 +122,7 @@ fn narrowed_row(v: [f64; 3]) -> [f32; 3]
 
 // The rotation from the sky to the camera, in f32.
 pub fn rotation_from_theta_crval(theta: f64, crval_ra: f64, crval_dec: f64) -> [[f32; 3]; 3]
-    ensures { result ≡ rotationFromThetaCrval theta crval_ra crval_dec }
+    ensures { result ≡ rotation_from_theta_crval theta crval_ra crval_dec }
 {
     let m = camera_rows_f64(theta, crval_ra, crval_dec);
     let x = narrowed_row(m[0]);
@@ -149,7 +149,7 @@ fn raw_x(cd: [[f64; 2]; 2], flip: bool, e: [f64; 3], n: [f64; 3]) -> [f64; 3]
 
 // 2 atan(ps_x * W / 2), in f32.
 fn field_of_view(ps_x: f64, width: u32) -> f32
-    ensures { result ≡ fieldOfView ps_x width }
+    ensures { result ≡ field_of_view ps_x width }
 {
     narrow(2.0 * atan(ps_x * (width as f64) / 2.0))
 }
@@ -161,7 +161,7 @@ pub fn wcs_to_rotation(
     crval_dec: f64,
     image_width: u32,
 ) -> WcsRotation
-    ensures { result ≡ wcsToRotation cd crval_ra crval_dec image_width }
+    ensures { result ≡ wcs_to_rotation cd crval_ra crval_dec image_width }
 {
     let p = plane_at(crval_ra, crval_dec);
     let flip = mirrored(cd);

@@ -1,6 +1,6 @@
 // The projections on angles.
 ghost use Rattle.std.specs.Prelude.{◌≡◌};
-ghost use Rattle.project.specs.Project.{divided, tanProject, awayFrom, inverseTanProject, cdFromTheta, predictTanplane};
+ghost use Rattle.project.specs.Project.{divided, tan_project, away_from, inverse_tan_project, cd_from_theta, predict_tanplane};
 
 use crate::{PLANE_CUT, Plane, Projected, Sky};
 use angles::{asin, atan, atan2, sin_cos};
@@ -21,7 +21,7 @@ fn divided(cut: f64, xi: f64, eta: f64, denom: f64) -> Projected
 
 // The point (ra, dec) of the sky on the tangent plane at (crval_ra, crval_dec).
 pub fn tan_project(ra: f64, dec: f64, crval_ra: f64, crval_dec: f64) -> Projected
-    ensures { result ≡ tanProject ra dec crval_ra crval_dec }
+    ensures { result ≡ tan_project ra dec crval_ra crval_dec }
 {
     let a = sin_cos(ra - crval_ra);
     let d = sin_cos(dec);
@@ -43,7 +43,7 @@ pub fn tan_project(ra: f64, dec: f64, crval_ra: f64, crval_dec: f64) -> Projecte
 // The point of the sky at (xi, eta) of the tangent plane at (ra0, dec0), off its origin: c is the angle from the origin, and rho the
 // tangent of c.
 fn away_from(xi: f64, eta: f64, ra0: f64, dec0: f64, rho: f64, c: f64) -> Sky
-    ensures { result ≡ awayFrom xi eta ra0 dec0 rho c }
+    ensures { result ≡ away_from xi eta ra0 dec0 rho c }
 {
     let a = sin_cos(c);
     let d = sin_cos(dec0);
@@ -61,7 +61,7 @@ fn away_from(xi: f64, eta: f64, ra0: f64, dec0: f64, rho: f64, c: f64) -> Sky
 
 // The point of the sky at (xi, eta) of the tangent plane at (crval_ra, crval_dec).
 pub fn inverse_tan_project(xi: f64, eta: f64, crval_ra: f64, crval_dec: f64) -> Sky
-    ensures { result ≡ inverseTanProject xi eta crval_ra crval_dec }
+    ensures { result ≡ inverse_tan_project xi eta crval_ra crval_dec }
 {
     let rho_sq = xi * xi + eta * eta;
     if rho_sq < NO_OFFSET {
@@ -77,7 +77,7 @@ pub fn inverse_tan_project(xi: f64, eta: f64, crval_ra: f64, crval_dec: f64) -> 
 // The matrix from pixels to the tangent plane. theta is the roll of the frame in which the mirror is already undone, so that for a mirrored
 // image the first column is negated.
 pub fn cd_from_theta(theta: f64, pixel_scale: f64, parity_flip: bool) -> [[f64; 2]; 2]
-    ensures { result ≡ cdFromTheta theta pixel_scale parity_flip }
+    ensures { result ≡ cd_from_theta theta pixel_scale parity_flip }
 {
     let t = sin_cos(theta);
     let sin_t = t.sin;
@@ -92,7 +92,7 @@ pub fn cd_from_theta(theta: f64, pixel_scale: f64, parity_flip: bool) -> [[f64; 
 
 // Where a spot at (px, py) lies on the tangent plane.
 pub fn predict_tanplane(px: f64, py: f64, cos_t: f64, sin_t: f64, ps: f64) -> Plane
-    ensures { result ≡ predictTanplane px py cos_t sin_t ps }
+    ensures { result ≡ predict_tanplane px py cos_t sin_t ps }
 {
     Plane {
         xi: ps * (cos_t * px - sin_t * py),

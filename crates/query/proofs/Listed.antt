@@ -9,7 +9,7 @@ use native.Mathlib.Omega.{arith}
 use lib.Ieee.{Float, le}
 use lib.ListN.{get_or, length, take, drop, set, length-set, length-append, take-append-drop}
 use lib.Seq.{get_or-drop, get_or-take, drop-drop, drop-set-lt, take-suc-set, length-take-le, take-append-le, take-take, take_at, slice, slice-cons, length-slice, ext_get_or}
-use Rattle.fit.specs.Rows.{directionAt}
+use Rattle.fit.specs.Rows.{direction_at}
 use Rattle.query.specs.Query.{dot32, scanned}
 use Rattle.query.specs.Listing.{standing}
 use Rattle.query.specs.declared.Fall.{Fall}
@@ -42,8 +42,8 @@ module _ {A : Type 0} (to k : ℕ) (m o : List A) where
 
   module _ {rest all : List A} (w : Writing to k m o rest all) (room : to + k ≤ length m) where
     -- a place in front, and one behind
-    pub in-front : (j : ℕ) (d : A) → j < to → get_or m j d ≡ get_or o j d
-    in-front j d h =
+    pub in_front : (j : ℕ) (d : A) → j < to → get_or m j d ≡ get_or o j d
+    in_front j d h =
         let l : length (take (to + k) m) ≡ to + k = length-take-le (to + k) m room in
         let p : to ≤ length (take (to + k) m) = omega arith in
         let q : to ≤ to + k = omega arith in
@@ -65,12 +65,12 @@ module _ {A : Type 0} (to k : ℕ) (m o : List A) where
         (λ j p.
         let h : a + j < e = omega (arith, length-slice a e m long) in
         get_or-drop a (take e m) j d ∙ get_or-take e m (a + j) d h
-        ∙ ⊎_elim (λ (q : e ≤ to). in-front (a + j) d (omega arith)) (λ (q : to + k ≤ a). behind (a + j) d (omega arith)) side
+        ∙ ⊎_elim (λ (q : e ≤ to). in_front (a + j) d (omega arith)) (λ (q : to + k ≤ a). behind (a + j) d (omega arith)) side
         ∙ sym (get_or-drop a (take e o) j d ∙ get_or-take e o (a + j) d h))
 
   module _ {all : List A} (w : Writing to k m o [] all) (room : to + k ≤ length m) where
-    pub how-many : k ≡ length all
-    how-many =
+    pub how_many : k ≡ length all
+    how_many =
         let l : length (take (to + k) m) ≡ to + k = length-take-le (to + k) m room in
         let u : length (take to o) ≡ to = length-take-le to o (omega arith) in
         let s : length (take (to + k) m) ≡ length (take to o) + length all = ap length (sym (append-nil (take (to + k) m)) ∙ w.front) ∙ length-append (take to o) all in
@@ -85,40 +85,40 @@ module _ {A : Type 0} (to k : ℕ) (m o : List A) where
 -- ---- the same at the front of a list
 
 module _ {A : Type 0} (k : ℕ) (m o : List A) where
-  pub front-push : {rest all : List A} (a : A) → Writing 0 k m o (a ∷ rest) all → k < length m → Writing 0 (k + 1) (set m k a) o rest all
-  front-push {rest} {all} a w h =
+  pub front_push : {rest all : List A} (a : A) → Writing 0 k m o (a ∷ rest) all → k < length m → Writing 0 (k + 1) (set m k a) o rest all
+  front_push {rest} {all} a w h =
       let e : 0 + k ≡ k = omega arith in
       subst (λ (j : ℕ). Writing 0 (k + 1) (set m j a) o rest all) e (push 0 k m o a w (omega arith))
 
   module _ {all : List A} (w : Writing 0 k m o [] all) (room : k ≤ length m) where
-    pub front-many : k ≡ length all
-    front-many = how-many 0 k m o w (omega arith)
+    pub front_many : k ≡ length all
+    front_many = how_many 0 k m o w (omega arith)
 
-    pub front-whole : m ≡ all ++ drop (length all) o
-    front-whole =
-        let e : 0 + k ≡ length all = omega (arith, front-many) in
+    pub front_whole : m ≡ all ++ drop (length all) o
+    front_whole =
+        let e : 0 + k ≡ length all = omega (arith, front_many) in
         whole 0 k m o w (omega arith) ∙ ap (λ (j : ℕ). all ++ drop j o) e
 
 -- ---- the scan, one direction more
 
 module _ (ds axis : List Float) (least : Float) (n j : ℕ) where
-  pub scan-next : j < n → le least (dot32 axis (directionAt ds j)) ≡ true
+  pub scan_next : j < n → le least (dot32 axis (direction_at ds j)) ≡ true
       → scanned ds axis least j (n - j) ≡ j ∷ scanned ds axis least (j + 1) (n - (j + 1))
   unfolding scanned
-  scan-next h b =
+  scan_next h b =
       let e : n - j ≡ suc (n - (j + 1)) = omega arith in
       rw (e, scanned, b, add-one j)
 
-  pub scan-not : j < n → le least (dot32 axis (directionAt ds j)) ≡ false
+  pub scan_not : j < n → le least (dot32 axis (direction_at ds j)) ≡ false
       → scanned ds axis least j (n - j) ≡ scanned ds axis least (j + 1) (n - (j + 1))
   unfolding scanned
-  scan-not h b =
+  scan_not h b =
       let e : n - j ≡ suc (n - (j + 1)) = omega arith in
       rw (e, scanned, b, add-one j)
 
-  pub scan-none : n ≤ j → scanned ds axis least j (n - j) ≡ []
+  pub scan_none : n ≤ j → scanned ds axis least j (n - j) ≡ []
   unfolding scanned
-  scan-none h =
+  scan_none h =
       let e : n - j ≡ 0 = omega arith in
       ap (scanned ds axis least j) e
 
@@ -129,16 +129,16 @@ module _ (f : ℕ → Fall) (j : ℕ) (js : List ℕ) where
   unfolding standing
   stands b = rw b
 
-  pub falls-off : (f j).inside ≡ false → standing f (j ∷ js) ≡ standing f js
+  pub falls_off : (f j).inside ≡ false → standing f (j ∷ js) ≡ standing f js
   unfolding standing
-  falls-off b = rw b
+  falls_off b = rw b
 
 module _ (f : ℕ → Fall) (e i : ℕ) (o : List ℕ) (h : i < e) (fits : e ≤ length o) where
-  pub cut-next : slice i e o ≡ get_or o i 0 ∷ slice (i + 1) e o
-  cut-next = slice-cons i e o 0 h fits ∙ ap (λ (k : ℕ). get_or o i 0 ∷ slice k e o) (sym (add-one i))
+  pub cut_next : slice i e o ≡ get_or o i 0 ∷ slice (i + 1) e o
+  cut_next = slice-cons i e o 0 h fits ∙ ap (λ (k : ℕ). get_or o i 0 ∷ slice k e o) (sym (add-one i))
 
-  pub next-stands : (f (get_or o i 0)).inside ≡ true → standing f (slice i e o) ≡ get_or o i 0 ∷ standing f (slice (i + 1) e o)
-  next-stands b = ap (standing f) cut-next ∙ stands f (get_or o i 0) (slice (i + 1) e o) b
+  pub next_stands : (f (get_or o i 0)).inside ≡ true → standing f (slice i e o) ≡ get_or o i 0 ∷ standing f (slice (i + 1) e o)
+  next_stands b = ap (standing f) cut_next ∙ stands f (get_or o i 0) (slice (i + 1) e o) b
 
-  pub next-off : (f (get_or o i 0)).inside ≡ false → standing f (slice i e o) ≡ standing f (slice (i + 1) e o)
-  next-off b = ap (standing f) cut-next ∙ falls-off f (get_or o i 0) (slice (i + 1) e o) b
+  pub next_off : (f (get_or o i 0)).inside ≡ false → standing f (slice i e o) ≡ standing f (slice (i + 1) e o)
+  next_off b = ap (standing f) cut_next ∙ falls_off f (get_or o i 0) (slice (i + 1) e o) b

@@ -4,34 +4,34 @@ use mathlib.Core.Bool.{Bool, true, cond}
 use mathlib.Core.List.{List, [], ◌∷◌}
 use Prim.Native.Nat.{ℕ}
 use lib.Ieee.{Float}
-use Rattle.fit.specs.Rows.{directionAt}
+use Rattle.fit.specs.Rows.{direction_at}
 use Rattle.fit.specs.declared.Pose.{Pose}
 use Rattle.entry.specs.declared.Settings.{Settings}
-use Rattle.entry.specs.Entry.{fixedOf}
-use Rattle.entry.specs.Fixed.{Fixed, searchRadius, requeryMargin, requeryCos, keepR, thetaMargin}
-use Rattle.query.specs.Query.{leastCos, drifted, predicted, reaches, pruned}
-use Rattle.query.specs.Listing.{leastCosOf, driftedFrom, fallOf, falling, standing}
+use Rattle.entry.specs.Entry.{fixed_of}
+use Rattle.entry.specs.Fixed.{Fixed, search_radius, requery_margin, requery_cos, keep_r, theta_margin}
+use Rattle.query.specs.Query.{least_cos, drifted, predicted, reaches, pruned}
+use Rattle.query.specs.Listing.{least_cos_of, drifted_from, fall_of, falling, standing}
 use Rattle.query.specs.Sighting.{due}
 use Rattle.query.specs.declared.Held.{Held}
 
-pub least-cos-is : (k : Fixed) → leastCosOf (searchRadius k) (requeryMargin k) ≡ leastCos k
-unfolding leastCosOf leastCos
-least-cos-is k = refl
+pub least_cos_is : (k : Fixed) → least_cos_of (search_radius k) (requery_margin k) ≡ least_cos k
+unfolding least_cos_of least_cos
+least_cos_is k = refl
 
-pub drifted-is : (k : Fixed) (p : Pose) (b : List Float) (theta : Float) → driftedFrom b theta p (requeryCos k) (thetaMargin k) ≡ drifted k p b theta
-unfolding driftedFrom drifted
-drifted-is k p b theta = refl
+pub drifted_is : (k : Fixed) (p : Pose) (b : List Float) (theta : Float) → drifted_from b theta p (requery_cos k) (theta_margin k) ≡ drifted k p b theta
+unfolding drifted_from drifted
+drifted_is k p b theta = refl
 
 module _ (k : Fixed) (ds : List Float) (rows : List (List Float)) where
-  pub pruned-is : (js : List ℕ) → standing (falling k.scale k.cut (keepR k) ds rows) js ≡ pruned k ds rows js
-  unfolding standing pruned fallOf predicted reaches
-  pruned-is [] = refl
-  pruned-is (j ∷ js) =
-      ap (λ (more : List ℕ). cond (reaches k rows (directionAt ds j) (keepR k) (predicted k rows j (directionAt ds j))) (j ∷ more) more) (pruned-is js)
+  pub pruned_is : (js : List ℕ) → standing (falling k.scale k.cut (keep_r k) ds rows) js ≡ pruned k ds rows js
+  unfolding standing pruned fall_of predicted reaches
+  pruned_is [] = refl
+  pruned_is (j ∷ js) =
+      ap (λ (more : List ℕ). cond (reaches k rows (direction_at ds j) (keep_r k) (predicted k rows j (direction_at ds j))) (j ∷ more) more) (pruned_is js)
 
-pub due-drifted : (k : Settings) (h : Held) {x y : Float} {r : Bool} → h.filled ≡ true → x ≡ requeryCos (fixedOf k) → y ≡ thetaMargin (fixedOf k)
-    → r ≡ driftedFrom h.boresight h.theta h.pose x y → r ≡ due k h
-due-drifted k h {x} {y} t e f g =
-    g ∙ ap (λ (z : Float). driftedFrom h.boresight h.theta h.pose z y) e
-    ∙ ap (driftedFrom h.boresight h.theta h.pose (requeryCos (fixedOf k))) f ∙ drifted-is (fixedOf k) h.pose h.boresight h.theta
-    ∙ ap (λ (b : Bool). cond b (drifted (fixedOf k) h.pose h.boresight h.theta) true) (sym t)
+pub due_drifted : (k : Settings) (h : Held) {x y : Float} {r : Bool} → h.filled ≡ true → x ≡ requery_cos (fixed_of k) → y ≡ theta_margin (fixed_of k)
+    → r ≡ drifted_from h.boresight h.theta h.pose x y → r ≡ due k h
+due_drifted k h {x} {y} t e f g =
+    g ∙ ap (λ (z : Float). drifted_from h.boresight h.theta h.pose z y) e
+    ∙ ap (drifted_from h.boresight h.theta h.pose (requery_cos (fixed_of k))) f ∙ drifted_is (fixed_of k) h.pose h.boresight h.theta
+    ∙ ap (λ (b : Bool). cond b (drifted (fixed_of k) h.pose h.boresight h.theta) true) (sym t)

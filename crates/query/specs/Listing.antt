@@ -5,25 +5,25 @@ use Rattle.std.specs.Float.Ieee.{lt, le}
 use Rattle.lists.specs.Fronted.{fronted}
 use Rattle.rounding.specs.Arith.{◌⊕◌, ◌⊖◌, ◌⊗◌, ◌⊘◌, zero64, one64}
 use Rattle.rounding.specs.Narrow.{narrowed}
-use Rattle.rounding.specs.Methods.{absF, clampF}
+use Rattle.rounding.specs.Methods.{abs_f, clamp_f}
 use Rattle.angles.specs.SinCos.{cos32}
 use Rattle.solve.specs.Vector.{row, dot}
 use Rattle.project.specs.Camera.{boresight}
-use Rattle.fit.specs.Rows.{directionAt}
+use Rattle.fit.specs.Rows.{direction_at}
 use Rattle.fit.specs.declared.Pose.{Pose}
 use Rattle.query.specs.Query.{pi32}
 use Rattle.query.specs.declared.Fall.{Fall}
 
 -- ---- the query
 
--- `leastCos` of a search radius and a margin.
-unfoldable pub leastCosOf : Float → Float → Float
-leastCosOf search margin = cos32 (clampF (narrowed (search ⊕ margin)) zero64 pi32)
+-- `least_cos` of a search radius and a margin.
+unfoldable pub least_cos_of : Float → Float → Float
+least_cos_of search margin = cos32 (clamp_f (narrowed (search ⊕ margin)) zero64 pi32)
 
 -- `drifted` past a cosine and a margin of roll.
-unfoldable pub driftedFrom : List Float → Float → Pose → Float → Float → Bool
-driftedFrom b theta p cosine margin =
-    lt (dot b (boresight p.ra p.dec)) cosine || lt margin (absF (p.theta ⊖ theta))
+unfoldable pub drifted_from : List Float → Float → Pose → Float → Float → Bool
+drifted_from b theta p cosine margin =
+    lt (dot b (boresight p.ra p.dec)) cosine || lt margin (abs_f (p.theta ⊖ theta))
 
 -- So many new ones stand at the front of the list, and what stands after them is as it was.
 pub record Fronted (new was now : List ℕ) (r : ℕ) : Type 0 where
@@ -33,8 +33,8 @@ pub record Fronted (new was now : List ℕ) (r : ℕ) : Type 0 where
 -- ---- where directions fall
 
 -- Where a direction falls on the panel, and whether it reaches it: in front of the plane, and within a radius of the optical centre.
-unfoldable pub fallOf : Float → Float → Float → List (List Float) → List Float → Fall
-fallOf inv cut r rows v =
+unfoldable pub fall_of : Float → Float → Float → List (List Float) → List Float → Fall
+fall_of inv cut r rows v =
     let z = dot (row rows 2) v in
     let x = inv ⊗ dot (row rows 0) v ⊘ z in
     let y = inv ⊗ dot (row rows 1) v ⊘ z in
@@ -42,7 +42,7 @@ fallOf inv cut r rows v =
 
 -- The same of a direction by its number, at a scale.
 abbrev pub falling : Float → Float → Float → List Float → List (List Float) → ℕ → Fall
-falling scale cut r directions rows j = fallOf (one64 ⊘ scale) cut r rows (directionAt directions j)
+falling scale cut r directions rows j = fall_of (one64 ⊘ scale) cut r rows (direction_at directions j)
 
 -- The listed directions that reach the panel.
 unfoldable pub standing : (ℕ → Fall) → List ℕ → List ℕ

@@ -5,13 +5,13 @@ use Rattle.std.specs.Float.Ieee.{add, mul, div, lt, le}
 use Rattle.rounding.specs.Arith.{◌⊕◌, ◌⊖◌, ◌⊗◌, ◌⊘◌, f32, zero64, one64}
 use Rattle.rounding.specs.Root.{root}
 use Rattle.rounding.specs.Narrow.{narrowed}
-use Rattle.rounding.specs.Methods.{absF, clampF}
+use Rattle.rounding.specs.Methods.{abs_f, clamp_f}
 use Rattle.angles.specs.SinCos.{cos32}
 use Rattle.solve.specs.Vector.{at, row, dot}
 use Rattle.project.specs.Camera.{boresight}
-use Rattle.fit.specs.Rows.{directionAt}
+use Rattle.fit.specs.Rows.{direction_at}
 use Rattle.fit.specs.declared.Pose.{Pose}
-use Rattle.entry.specs.Fixed.{Fixed, searchRadius, requeryMargin, requeryCos, pruneR, keepR, thetaMargin}
+use Rattle.entry.specs.Fixed.{Fixed, search_radius, requery_margin, requery_cos, prune_r, keep_r, theta_margin}
 
 -- ---- the scan, in f32
 
@@ -37,23 +37,23 @@ abbrev pub pi32 : Float
 pi32 = f32 0x40490FDB
 
 -- "the cosine of the radius, clamped to 0 and the f32 PI": the radius is (search_radius + requery_margin) as f32.
-unfoldable pub leastCos : Fixed → Float
-unfolding cos32 clampF narrowed searchRadius requeryMargin
-leastCos k = cos32 (clampF (narrowed (searchRadius k ⊕ requeryMargin k)) zero64 pi32)
+unfoldable pub least_cos : Fixed → Float
+unfolding cos32 clamp_f narrowed search_radius requery_margin
+least_cos k = cos32 (clamp_f (narrowed (search_radius k ⊕ requery_margin k)) zero64 pi32)
 
 -- "a scan that lists, ascending, every direction whose f32 dot product with the normalised boresight is at least the cosine": of the n directions
 -- from j on.
 unfoldable pub scanned : List Float → List Float → Float → ℕ → ℕ → List ℕ
-unfolding dot32 directionAt
-scanned directions axis leastC j zero = []
-scanned directions axis leastC j (suc n) =
-    let more = scanned directions axis leastC (suc j) n in
-    cond (le leastC (dot32 axis (directionAt directions j))) (j ∷ more) more
+unfolding dot32 direction_at
+scanned directions axis least_c j zero = []
+scanned directions axis least_c j (suc n) =
+    let more = scanned directions axis least_c (suc j) n in
+    cond (le least_c (dot32 axis (direction_at directions j))) (j ∷ more) more
 
 -- 01, "Cone query", at the boresight of a pose: it stands for `query_indices_from_uvec_cached` of Phase D.
 unfoldable pub query : Fixed → List Float → Pose → List ℕ
-unfolding scanned axis32 leastCos boresight
-query k directions p = scanned directions (axis32 (boresight p.ra p.dec)) (leastCos k) 0 k.count
+unfolding scanned axis32 least_cos boresight
+query k directions p = scanned directions (axis32 (boresight p.ra p.dec)) (least_cos k) 0 k.count
 
 -- ---- the cached query
 
@@ -64,9 +64,9 @@ pub data Cache : Type 0 where
 
 -- `need_query` where a query is cached, at boresight b and roll theta: "re-query when either drifts past its margin".
 unfoldable pub drifted : Fixed → Pose → List Float → Float → Bool
-unfolding dot boresight requeryCos thetaMargin absF
+unfolding dot boresight requery_cos theta_margin abs_f
 drifted k p b theta =
-    lt (dot b (boresight p.ra p.dec)) (requeryCos k) || lt (thetaMargin k) (absF (p.theta ⊖ theta))
+    lt (dot b (boresight p.ra p.dec)) (requery_cos k) || lt (theta_margin k) (abs_f (p.theta ⊖ theta))
 
 -- ---- predictions: where a direction falls on the panel
 
@@ -91,19 +91,19 @@ reaches k rows v r q = not (le (dot (row rows 2) v) k.cut) && le (q.x ⊗ q.x �
 
 -- The Rust's `predicted`: the predictions of the listed directions that lie within prune_r.
 unfoldable pub predictions : Fixed → List Float → List (List Float) → List ℕ → List Prediction
-unfolding predicted reaches directionAt pruneR
+unfolding predicted reaches direction_at prune_r
 predictions k directions rows [] = []
 predictions k directions rows (j ∷ js) =
-    let v = directionAt directions j in
+    let v = direction_at directions j in
     let q = predicted k rows j v in
     let more = predictions k directions rows js in
-    cond (reaches k rows v (pruneR k) q) (q ∷ more) more
+    cond (reaches k rows v (prune_r k) q) (q ∷ more) more
 
 -- `nearby_indices` after a fresh query: the listed directions that lie within keep_r stay cached.
 unfoldable pub pruned : Fixed → List Float → List (List Float) → List ℕ → List ℕ
-unfolding predicted reaches directionAt keepR
+unfolding predicted reaches direction_at keep_r
 pruned k directions rows [] = []
 pruned k directions rows (j ∷ js) =
-    let v = directionAt directions j in
+    let v = direction_at directions j in
     let more = pruned k directions rows js in
-    cond (reaches k rows v (keepR k) (predicted k rows j v)) (j ∷ more) more
+    cond (reaches k rows v (keep_r k) (predicted k rows j v)) (j ∷ more) more

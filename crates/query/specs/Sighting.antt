@@ -2,14 +2,14 @@
 use Rattle.std.specs.Prelude.{ℕ, Bool, true, cond}
 use Rattle.project.specs.Camera.{boresight}
 use Rattle.entry.specs.declared.Settings.{Settings}
-use Rattle.entry.specs.Entry.{fixedOf}
+use Rattle.entry.specs.Entry.{fixed_of}
 use Rattle.query.specs.Query.{drifted}
 use Rattle.query.specs.declared.Held.{Held}
 use Rattle.query.specs.declared.Looked.{Looked}
 
 -- A query is due where none is cached, or the pose has drifted from the cached one.
 abbrev pub due : Settings → Held → Bool
-due k h = cond h.filled (drifted (fixedOf k) h.pose h.boresight h.theta) true
+due k h = cond h.filled (drifted (fixed_of k) h.pose h.boresight h.theta) true
 
 -- The state and the counts after a fresh query, of which so many directions are cached.
 abbrev pub afresh : Held → ℕ → ℕ → Looked

@@ -2,8 +2,8 @@
 ghost use Rattle.std.specs.Prelude.{◌≡◌, not, ◌&&◌};
 ghost use Rattle.std.specs.Float.Ieee.{le};
 ghost use Rattle.rounding.specs.Arith.{◌⊕◌, ◌⊗◌};
-ghost use Rattle.fit.specs.Rows.{directionAt};
-ghost use Rattle.query.specs.Listing.{fallOf, falling, standing, Fronted};
+ghost use Rattle.fit.specs.Rows.{direction_at};
+ghost use Rattle.query.specs.Listing.{fall_of, falling, standing, Fronted};
 
 use crate::Fall;
 use fit::direction_at;
@@ -20,7 +20,7 @@ fn reaches(x: f64, y: f64, z: f64, cut: f64, r: f64) -> bool
 }
 
 fn fall_of(v: [f32; 3], rows: [[f64; 3]; 3], inv: f64, cut: f64, r: f64) -> Fall
-    ensures { result ≡ fallOf inv cut r rows v }
+    ensures { result ≡ fall_of inv cut r rows v }
 {
     let a = widen(v[0]);
     let b = widen(v[1]);
@@ -43,7 +43,7 @@ pub fn fall_at(
     cut: f64,
     r: f64,
 ) -> Fall
-    ensures { result ≡ fallOf inv cut r rows (directionAt directions.now j) }
+    ensures { result ≡ fall_of inv cut r rows (direction_at directions.now j) }
 {
     fall_of(direction_at(directions, j), rows, inv, cut, r)
 }

@@ -1,8 +1,8 @@
 // The cone query: the directions near the boresight, and whether the cached ones still do.
 ghost use Rattle.std.specs.Prelude.{◌≡◌, ◌/◌, min, length};
-ghost use Rattle.rounding.specs.Methods.{clampF};
+ghost use Rattle.rounding.specs.Methods.{clamp_f};
 ghost use Rattle.query.specs.Query.{dot32, axis32, scanned};
-ghost use Rattle.query.specs.Listing.{leastCosOf, driftedFrom, Fronted};
+ghost use Rattle.query.specs.Listing.{least_cos_of, drifted_from, Fronted};
 
 use angles::cos_f32;
 use fit::Pose;
@@ -35,7 +35,7 @@ pub fn axis32(b: [f64; 3]) -> [f32; 3]
 
 // Rust's clamp; a NaN stays.
 fn clamp32(x: f32, lo: f32, hi: f32) -> f32
-    ensures { result ≡ clampF x lo hi }
+    ensures { result ≡ clamp_f x lo hi }
 {
     if x < lo {
         return lo;
@@ -45,7 +45,7 @@ fn clamp32(x: f32, lo: f32, hi: f32) -> f32
 
 // The cosine of the cone's radius.
 pub fn least_cos_of(search: f64, margin: f64) -> f32
-    ensures { result ≡ leastCosOf search margin }
+    ensures { result ≡ least_cos_of search margin }
 {
     cos_f32(clamp32(narrow(search + margin), 0.0, PI))
 }
@@ -83,7 +83,7 @@ pub(crate) fn drifted_from(
     requery_cos: f64,
     theta_margin: f64,
 ) -> bool
-    ensures { result ≡ driftedFrom b theta pose requery_cos theta_margin }
+    ensures { result ≡ drifted_from b theta pose requery_cos theta_margin }
 {
     let now = boresight_of(pose.ra, pose.dec);
     if dot(b, now) < requery_cos {

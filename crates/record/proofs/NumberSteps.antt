@@ -13,7 +13,7 @@ use lib.ListN.{length, drop, get_or, drop_of_length-le}
 use lib.Seq.{drop-cons}
 use lib.Pow.{pow_pos, pow_mono, pow-add, shl_exact}
 use Rattle.record.specs.declared.Numbered.TheVariants.{Got, Short, Wrong}
-use Rattle.record.specs.Number.{ends, leaves, numberFrom, number}
+use Rattle.record.specs.Number.{ends, leaves, number_from, number}
 use Rattle.record.specs.Passes.{Greatest}
 
 pub picks : {A : Type 0} (t : Bool) {x y z : A} → (t ≡ true → x ≡ z) → (t ≡ false → y ≡ z) → cond t x y ≡ z
@@ -30,33 +30,33 @@ one_shifted d h = shl_exact 1 d 64 (omega arith) (omega arith) ∙ omega arith
 -- ---- a byte
 
 module _ (b : ℕ) (bs : List ℕ) (most v w n : ℕ) where
-  pub last-is : b < 128 → numberFrom (b ∷ bs) most v w n ≡ cond (ends most v w b) (Got (v + b * w) (suc n)) Wrong
-  unfolding numberFrom
-  last-is h =
+  pub last_is : b < 128 → number_from (b ∷ bs) most v w n ≡ cond (ends most v w b) (Got (v + b * w) (suc n)) Wrong
+  unfolding number_from
+  last_is h =
       ap
       (λ (t : Bool). cond t (cond (ends most v w b) (Got (v + b * w) (suc n)) Wrong)
-      (cond (leaves most v w b) (numberFrom bs most (v + b % 128 * w) (128 * w) (suc n)) Wrong))
+      (cond (leaves most v w b) (number_from bs most (v + b % 128 * w) (128 * w) (suc n)) Wrong))
       (lt-ltb b 128 h)
 
-  pub more-is : 128 ≤ b → numberFrom (b ∷ bs) most v w n ≡ cond (leaves most v w b) (numberFrom bs most (v + b % 128 * w) (128 * w) (suc n)) Wrong
-  unfolding numberFrom
-  more-is h =
+  pub more_is : 128 ≤ b → number_from (b ∷ bs) most v w n ≡ cond (leaves most v w b) (number_from bs most (v + b % 128 * w) (128 * w) (suc n)) Wrong
+  unfolding number_from
+  more_is h =
       ap
       (λ (t : Bool). cond t (cond (ends most v w b) (Got (v + b * w) (suc n)) Wrong)
-      (cond (leaves most v w b) (numberFrom bs most (v + b % 128 * w) (128 * w) (suc n)) Wrong))
+      (cond (leaves most v w b) (number_from bs most (v + b % 128 * w) (128 * w) (suc n)) Wrong))
       (le-ltb b 128 h)
 
-pub leaves-is : (most v w b : ℕ) → leaves most v w b ≡ ltb (v + b % 128 * w + 128 * w) most
+pub leaves_is : (most v w b : ℕ) → leaves most v w b ≡ ltb (v + b % 128 * w + 128 * w) most
 unfolding leaves
-leaves-is most v w b = refl
+leaves_is most v w b = refl
 
 pub ends_is : (most v w b : ℕ) → ends most v w b ≡ ((ltb 0 b || eqb w 1) && ltb (v + b * w) most)
 unfolding ends
 ends_is most v w b = refl
 
-pub or-true : (t : Bool) → (t || true) ≡ true
-or-true true = refl
-or-true false = refl
+pub or_true : (t : Bool) → (t || true) ≡ true
+or_true true = refl
+or_true false = refl
 
 pub both_true : (t u : Bool) → (t && u) ≡ true → (t ≡ true) × (u ≡ true)
 both_true true u e = (refl, e)
@@ -83,41 +83,41 @@ module _ (most v w left : ℕ) (small : v < w) (is : w * (left + 1) ≡ most) wh
       omega (arith, spread)
 
   module _ (b : ℕ) (bs : List ℕ) (n : ℕ) where
-    pub too-high : b < 256 → left < b → numberFrom (b ∷ bs) most v w n ≡ Wrong
-    unfolding numberFrom
-    too-high byte h =
+    pub too_high : b < 256 → left < b → number_from (b ∷ bs) most v w n ≡ Wrong
+    unfolding number_from
+    too_high byte h =
         picks (ltb b 128)
         (λ e. ap (λ (t : Bool). cond t (Got (v + b * w) (suc n)) Wrong) (and_right (ltb 0 b || eqb w 1) (le-ltb (v + b * w) most (omega (arith, over b h)))))
-        (λ e. ap (λ (t : Bool). cond t (numberFrom bs most (v + b % 128 * w) (128 * w) (suc n)) Wrong)
+        (λ e. ap (λ (t : Bool). cond t (number_from bs most (v + b % 128 * w) (128 * w) (suc n)) Wrong)
         (le-ltb (v + b % 128 * w + 128 * w) most (omega (arith, over b h, high_byte b w (ltb-false b 128 e) byte))))
 
-    pub needless : b ≡ 0 → 1 < w → numberFrom (b ∷ bs) most v w n ≡ Wrong
-    unfolding numberFrom
+    pub needless : b ≡ 0 → 1 < w → number_from (b ∷ bs) most v w n ≡ Wrong
+    unfolding number_from
     needless z h =
-        last-is b bs most v w n (omega arith)
+        last_is b bs most v w n (omega arith)
         ∙ ap (λ (t : Bool). cond ((t || eqb w 1) && ltb (v + b * w) most) (Got (v + b * w) (suc n)) Wrong) (le-ltb 0 b (omega arith))
         ∙ ap (λ (t : Bool). cond (t && ltb (v + b * w) most) (Got (v + b * w) (suc n)) Wrong) (ne_eqb w 1 (λ e. omega arith))
 
-    pub last_byte : b < 128 → b ≤ left → (0 < b) ⊎ (w ≡ 1) → numberFrom (b ∷ bs) most v w n ≡ Got (v + b * w) (suc n)
-    unfolding numberFrom
+    pub last_byte : b < 128 → b ≤ left → (0 < b) ⊎ (w ≡ 1) → number_from (b ∷ bs) most v w n ≡ Got (v + b * w) (suc n)
+    unfolding number_from
     last_byte l h first =
-        last-is b bs most v w n l
+        last_is b bs most v w n l
         ∙ ap (λ (t : Bool). cond (t && ltb (v + b * w) most) (Got (v + b * w) (suc n)) Wrong) (lawful first)
         ∙ ap (λ (t : Bool). cond t (Got (v + b * w) (suc n)) Wrong) (lt-ltb (v + b * w) most (under b h))
       where
         lawful : (0 < b) ⊎ (w ≡ 1) → (ltb 0 b || eqb w 1) ≡ true
         lawful (inl p) = ap (λ (t : Bool). t || eqb w 1) (lt-ltb 0 b p)
-        lawful (inr p) = ap (λ (t : Bool). ltb 0 b || t) (eq-eqb w 1 p) ∙ or-true (ltb 0 b)
+        lawful (inr p) = ap (λ (t : Bool). ltb 0 b || t) (eq-eqb w 1 p) ∙ or_true (ltb 0 b)
 
-    pub byte-on : 128 ≤ b → b < 256 → b ≤ left → numberFrom (b ∷ bs) most v w n ≡ numberFrom bs most (v + (b - 128) * w) (w * 128) (n + 1)
-    unfolding numberFrom
-    byte-on g byte h =
-        more-is b bs most v w n g
-        ∙ ap (λ (t : Bool). cond t (numberFrom bs most (v + b % 128 * w) (128 * w) (suc n)) Wrong)
+    pub byte_on : 128 ≤ b → b < 256 → b ≤ left → number_from (b ∷ bs) most v w n ≡ number_from bs most (v + (b - 128) * w) (w * 128) (n + 1)
+    unfolding number_from
+    byte_on g byte h =
+        more_is b bs most v w n g
+        ∙ ap (λ (t : Bool). cond t (number_from bs most (v + b % 128 * w) (128 * w) (suc n)) Wrong)
         (lt-ltb (v + b % 128 * w + 128 * w) most (omega (arith, under b h, high_byte b w g byte)))
-        ∙ ap (λ (x : ℕ). numberFrom bs most (v + x * w) (128 * w) (suc n)) low
-        ∙ ap (λ (x : ℕ). numberFrom bs most (v + (b - 128) * w) x (suc n)) (mul_comm 128 w)
-        ∙ ap (λ (x : ℕ). numberFrom bs most (v + (b - 128) * w) (w * 128) x) (sym (add-one n))
+        ∙ ap (λ (x : ℕ). number_from bs most (v + x * w) (128 * w) (suc n)) low
+        ∙ ap (λ (x : ℕ). number_from bs most (v + (b - 128) * w) x (suc n)) (mul_comm 128 w)
+        ∙ ap (λ (x : ℕ). number_from bs most (v + (b - 128) * w) (w * 128) x) (sym (add-one n))
       where
         low : b % 128 ≡ b - 128
         low = omega arith
@@ -136,11 +136,11 @@ module _ (left bits : ℕ) (is : left + 1 ≡ 2 ^ bits) (h : 128 ≤ left) where
       let k : bits ≡ (bits - 7) + 7 = omega (arith, seven (ltb bits 7) refl) in
       is ∙ ap (λ (x : ℕ). 2 ^ x) k ∙ pow-add 2 (bits - 7) 7
 
-  pub next-left : left / 128 + 1 ≡ 2 ^ (bits - 7)
-  next-left = omega (arith, parted, pow_pos (bits - 7))
+  pub next_left : left / 128 + 1 ≡ 2 ^ (bits - 7)
+  next_left = omega (arith, parted, pow_pos (bits - 7))
 
-  pub next-whole : 128 * (left / 128 + 1) ≡ left + 1
-  next-whole = omega (arith, parted, pow_pos (bits - 7))
+  pub next_whole : 128 * (left / 128 + 1) ≡ left + 1
+  next_whole = omega (arith, parted, pow_pos (bits - 7))
 
 -- ---- the loop
 
@@ -151,7 +151,7 @@ pub record Going (bytes : List ℕ) (at top v weight left i : ℕ) : Type 0 wher
   pub later : at < i → 128 ≤ weight
   pub bits : Greatest left
   pub product : weight * (left + 1) ≡ top + 1
-  pub rest : (n : ℕ) → top + 1 ≡ 2 ^ n → numberFrom (drop i bytes) (2 ^ n) v weight (i - at) ≡ number n (drop at bytes)
+  pub rest : (n : ℕ) → top + 1 ≡ 2 ^ n → number_from (drop i bytes) (2 ^ n) v weight (i - at) ≡ number n (drop at bytes)
 
 pub begun : (bytes : List ℕ) (at top : ℕ) → Greatest top → Going bytes at top 0 1 top at
 unfolding number
@@ -162,29 +162,29 @@ begun bytes at top g = record {
   later = λ h. absurd (omega arith);
   bits = g;
   product = omega arith;
-  rest = λ n e. ap (numberFrom (drop at bytes) (2 ^ n) 0 1) (omega arith);
+  rest = λ n e. ap (number_from (drop at bytes) (2 ^ n) 0 1) (omega arith);
 }
 
 module _ (bytes : List ℕ) (at top v w left i : ℕ) (g : Going bytes at top v w left i) where
-  pub number-ends : length bytes ≤ i → (n : ℕ) → top + 1 ≡ 2 ^ n → Short ≡ number n (drop at bytes)
-  unfolding numberFrom
-  number-ends h n e = ap (λ (l : List ℕ). numberFrom l (2 ^ n) v w (i - at)) (sym (drop_of_length-le bytes h)) ∙ g.rest n e
+  pub number_ends : length bytes ≤ i → (n : ℕ) → top + 1 ≡ 2 ^ n → Short ≡ number n (drop at bytes)
+  unfolding number_from
+  number_ends h n e = ap (λ (l : List ℕ). number_from l (2 ^ n) v w (i - at)) (sym (drop_of_length-le bytes h)) ∙ g.rest n e
 
   module _ (h : i < length bytes) (b : ℕ) (is : b ≡ get_or bytes i 0) where
-    step : (n : ℕ) → top + 1 ≡ 2 ^ n → numberFrom (b ∷ drop (suc i) bytes) (2 ^ n) v w (i - at) ≡ number n (drop at bytes)
+    step : (n : ℕ) → top + 1 ≡ 2 ^ n → number_from (b ∷ drop (suc i) bytes) (2 ^ n) v w (i - at) ≡ number n (drop at bytes)
     step n e =
-        ap (λ (x : ℕ). numberFrom (x ∷ drop (suc i) bytes) (2 ^ n) v w (i - at)) is
-        ∙ ap (λ (l : List ℕ). numberFrom l (2 ^ n) v w (i - at)) (sym (drop-cons bytes i 0 h)) ∙ g.rest n e
+        ap (λ (x : ℕ). number_from (x ∷ drop (suc i) bytes) (2 ^ n) v w (i - at)) is
+        ∙ ap (λ (l : List ℕ). number_from l (2 ^ n) v w (i - at)) (sym (drop-cons bytes i 0 h)) ∙ g.rest n e
 
-    pub number-high : b < 256 → left < b → (n : ℕ) → top + 1 ≡ 2 ^ n → Wrong ≡ number n (drop at bytes)
-    number-high byte l n e = sym (too-high (2 ^ n) v w left g.small (g.product ∙ e) b (drop (suc i) bytes) (i - at) byte l) ∙ step n e
+    pub number_high : b < 256 → left < b → (n : ℕ) → top + 1 ≡ 2 ^ n → Wrong ≡ number n (drop at bytes)
+    number_high byte l n e = sym (too_high (2 ^ n) v w left g.small (g.product ∙ e) b (drop (suc i) bytes) (i - at) byte l) ∙ step n e
 
-    pub number-needless : b ≡ 0 → at < i → (n : ℕ) → top + 1 ≡ 2 ^ n → Wrong ≡ number n (drop at bytes)
-    number-needless z l n e =
+    pub number_needless : b ≡ 0 → at < i → (n : ℕ) → top + 1 ≡ 2 ^ n → Wrong ≡ number n (drop at bytes)
+    number_needless z l n e =
         sym (needless (2 ^ n) v w left g.small (g.product ∙ e) b (drop (suc i) bytes) (i - at) z (omega (arith, g.later l))) ∙ step n e
 
-    pub number-last : b < 128 → b ≤ left → (b ≡ 0 → i ≤ at) → (n : ℕ) → top + 1 ≡ 2 ^ n → Got (v + b * w) (i - at + 1) ≡ number n (drop at bytes)
-    number-last l k z n e =
+    pub number_last : b < 128 → b ≤ left → (b ≡ 0 → i ≤ at) → (n : ℕ) → top + 1 ≡ 2 ^ n → Got (v + b * w) (i - at + 1) ≡ number n (drop at bytes)
+    number_last l k z n e =
         ap (Got (v + b * w)) (add-one (i - at))
         ∙ sym (last_byte (2 ^ n) v w left g.small (g.product ∙ e) b (drop (suc i) bytes) (i - at) l k (whether (ltb 0 b) refl)) ∙ step n e
       where
@@ -197,8 +197,8 @@ module _ (bytes : List ℕ) (at top v w left i : ℕ) (g : Going bytes at top v 
     pub fits_last : b ≤ left → v + b * w < top + 1
     fits_last k = under (top + 1) v w left g.small g.product b k
 
-    pub number-on : 128 ≤ b → b < 256 → b ≤ left → Going bytes at top (v + (b - 128) * w) (w * 128) (left / 128) (i + 1)
-    number-on l byte k =
+    pub number_on : 128 ≤ b → b < 256 → b ≤ left → Going bytes at top (v + (b - 128) * w) (w * 128) (left / 128) (i + 1)
+    number_on l byte k =
         let down : (b - 128) * w + 128 * w ≡ b * w = sym (add-mul (b - 128) 128 w) ∙ ap (λ (x : ℕ). x * w) (omega arith) in
         let short : (b - 128) * w ≤ 127 * w = mul-le-mul_right w (omega arith) in
         let up : 128 ≤ left = omega arith in
@@ -207,12 +207,12 @@ module _ (bytes : List ℕ) (at top v w left i : ℕ) (g : Going bytes at top v 
           small = omega (arith, g.small);
           first = λ e. absurd (omega (arith, g.from));
           later = λ e. omega (arith, g.small);
-          bits = record { bits = g.bits.bits - 7; is = next-left left g.bits.bits g.bits.is up };
-          product = mul_assoc w 128 (left / 128 + 1) ∙ ap (λ (x : ℕ). w * x) (next-whole left g.bits.bits g.bits.is up) ∙ g.product;
+          bits = record { bits = g.bits.bits - 7; is = next_left left g.bits.bits g.bits.is up };
+          product = mul_assoc w 128 (left / 128 + 1) ∙ ap (λ (x : ℕ). w * x) (next_whole left g.bits.bits g.bits.is up) ∙ g.product;
           rest = λ n e.
-              ap (λ (x : ℕ). numberFrom (drop x bytes) (2 ^ n) (v + (b - 128) * w) (w * 128) (i + 1 - at)) (add-one i)
-              ∙ ap (numberFrom (drop (suc i) bytes) (2 ^ n) (v + (b - 128) * w) (w * 128)) (omega (arith, g.from))
-              ∙ sym (byte-on (2 ^ n) v w left g.small (g.product ∙ e) b (drop (suc i) bytes) (i - at) l byte k) ∙ step n e;
+              ap (λ (x : ℕ). number_from (drop x bytes) (2 ^ n) (v + (b - 128) * w) (w * 128) (i + 1 - at)) (add-one i)
+              ∙ ap (number_from (drop (suc i) bytes) (2 ^ n) (v + (b - 128) * w) (w * 128)) (omega (arith, g.from))
+              ∙ sym (byte_on (2 ^ n) v w left g.small (g.product ∙ e) b (drop (suc i) bytes) (i - at) l byte k) ∙ step n e;
         }
 
     pub fits_on : 128 ≤ b → b ≤ left → w * 128 < top + 1
@@ -220,7 +220,7 @@ module _ (bytes : List ℕ) (at top v w left i : ℕ) (g : Going bytes at top v 
         let p : 128 * w ≤ b * w = mul-le-mul_right w l in
         omega (arith, fits_last k, mul_comm w 128)
 
-    pub fits-group : 128 ≤ b → b ≤ left → v + (b - 128) * w < top + 1
-    fits-group l k =
+    pub fits_group : 128 ≤ b → b ≤ left → v + (b - 128) * w < top + 1
+    fits_group l k =
         let p : (b - 128) * w ≤ b * w = mul-le-mul_right w (omega arith) in
         omega (arith, fits_last k)

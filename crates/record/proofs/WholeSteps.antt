@@ -7,16 +7,16 @@ use native.Mathlib.Omega.{arith}
 use borrow.Author.Tests.{lt-ltb, le-ltb}
 use lib.ListN.{length, drop, drop_of_length-le}
 use lib.Seq.{drop-cons}
-use Rattle.panel.specs.Spots.{spotNumbers}
+use Rattle.panel.specs.Spots.{spot_numbers}
 use Rattle.record.specs.declared.Numbered.{Numbered}
 use Rattle.record.specs.declared.Numbered.TheVariants.{Got, Short, Wrong}
 use Rattle.record.specs.Number.{number}
 use Rattle.record.specs.Reading.{Values, values, fault, onward, following, numbers, run, Read, refused, whole, closed, then, body, reading}
 use Rattle.record.specs.Layout.{Exposure}
-use Rattle.record.specs.Head.{headSpots, headMatches, headDirections, headBits, place, exposure}
+use Rattle.record.specs.Head.{head_spots, head_matches, head_directions, head_bits, place, exposure}
 use Rattle.record.specs.Passes.{answered, Fit, FoundIn}
 use Rattle.record.specs.declared.whole.Found.{Found}
-use Rattle.record.proofs.RunSteps.{taken, one, run-one, numbers-one}
+use Rattle.record.proofs.RunSteps.{taken, one, run_one, numbers_one}
 
 -- ---- what a number and its followers come from
 
@@ -44,95 +44,95 @@ opened b l next vs rest e = by (number b l) refl e
     by Short f e = let z : ◌≡◌ {A = ℕ} 0 1 = cc in absurd (omega arith)
     by Wrong f e = let z : ◌≡◌ {A = ℕ} 0 1 = cc in absurd (omega arith)
 
-fit-cons : (b : ℕ) (bs : List ℕ) (v : ℕ) (ws : List ℕ) → v < 2 ^ b → Fit bs ws → Fit (b ∷ bs) (v ∷ ws)
-fit-cons b bs v ws h f zero k = h
-fit-cons b bs v ws h f (suc i) k = f i (omega arith)
+fit_cons : (b : ℕ) (bs : List ℕ) (v : ℕ) (ws : List ℕ) → v < 2 ^ b → Fit bs ws → Fit (b ∷ bs) (v ∷ ws)
+fit_cons b bs v ws h f zero k = h
+fit_cons b bs v ws h f (suc i) k = f i (omega arith)
 
 pub numbers_fit : (bs l vs rest : List ℕ) → numbers bs l ≡ values vs rest → Fit bs vs
 numbers_fit [] l vs rest e = λ i h. absurd (omega arith)
 numbers_fit (b ∷ bs) l vs rest e =
-    let o = opened b l (numbers bs) vs rest (sym (numbers-one b bs l) ∙ e) in
+    let o = opened b l (numbers bs) vs rest (sym (numbers_one b bs l) ∙ e) in
     subst (λ (x : List ℕ). Fit (b ∷ bs) x) (sym o.is)
-    (fit-cons b bs o.v o.ws (taken b l o.got).small (numbers_fit bs (drop o.n l) o.ws rest o.onwards))
+    (fit_cons b bs o.v o.ws (taken b l o.got).small (numbers_fit bs (drop o.n l) o.ws rest o.onwards))
 
 pub run_length : (k b : ℕ) (l vs rest : List ℕ) → run k b l ≡ values vs rest → length vs ≡ k
 unfolding run
 run_length zero b l vs rest e = let p : [] ≡ vs = cc in ap length (sym p)
 run_length (suc k) b l vs rest e =
-    let o = opened b l (run k b) vs rest (sym (run-one k b l) ∙ e) in
+    let o = opened b l (run k b) vs rest (sym (run_one k b l) ∙ e) in
     ap length o.is ∙ ap suc (run_length k b (drop o.n l) o.ws rest o.onwards)
 
 -- ---- refused or not
 
-pub answered-bad : (n : ℕ) (x : Values) {y : Values} → (n ≡ 0 → ⊥) → y ≡ answered n x → y ≡ fault n
+pub answered_bad : (n : ℕ) (x : Values) {y : Values} → (n ≡ 0 → ⊥) → y ≡ answered n x → y ≡ fault n
 unfolding answered
-answered-bad zero x h e = absurd (h refl)
-answered-bad (suc n) x h e = e
+answered_bad zero x h e = absurd (h refl)
+answered_bad (suc n) x h e = e
 
-pub answered-good : (n : ℕ) (x : Values) {y : Values} → n ≡ 0 → y ≡ answered n x → y ≡ x
+pub answered_good : (n : ℕ) (x : Values) {y : Values} → n ≡ 0 → y ≡ answered n x → y ≡ x
 unfolding answered
-answered-good zero x h e = e
-answered-good (suc n) x h e = absurd (omega arith)
+answered_good zero x h e = e
+answered_good (suc n) x h e = absurd (omega arith)
 
 pub stops : (bytes : List ℕ) (r : Found) (n : ℕ) → r.refusal ≡ n → (n ≡ 0 → ⊥) → reading bytes ≡ refused n → FoundIn bytes r
 stops bytes r n e h g = record { refusal = λ k. g ∙ ap refused (sym e); lawful = λ z. absurd (h (sym e ∙ z)) }
 
-pub read-long : (bytes : List ℕ) → 65536 < length bytes → reading bytes ≡ refused 1
+pub read_long : (bytes : List ℕ) → 65536 < length bytes → reading bytes ≡ refused 1
 unfolding reading
-read-long bytes h = ap (λ (t : Bool). cond t (refused 1) (then (numbers headBits bytes) (λ h rest. body h rest))) (lt-ltb 65536 (length bytes) h)
+read_long bytes h = ap (λ (t : Bool). cond t (refused 1) (then (numbers head_bits bytes) (λ h rest. body h rest))) (lt-ltb 65536 (length bytes) h)
 
-pub then-values : {x : Values} {vs rest : List ℕ} (f : List ℕ → List ℕ → Read) → x ≡ values vs rest → then x f ≡ f vs rest
+pub then_values : {x : Values} {vs rest : List ℕ} (f : List ℕ → List ℕ → Read) → x ≡ values vs rest → then x f ≡ f vs rest
 unfolding then
-then-values f e = ap (λ (y : Values). then y f) e
+then_values f e = ap (λ (y : Values). then y f) e
 
-pub then-fault : {x : Values} {n : ℕ} (f : List ℕ → List ℕ → Read) → x ≡ fault n → then x f ≡ refused n
+pub then_fault : {x : Values} {n : ℕ} (f : List ℕ → List ℕ → Read) → x ≡ fault n → then x f ≡ refused n
 unfolding then
-then-fault f e = ap (λ (y : Values). then y f) e
+then_fault f e = ap (λ (y : Values). then y f) e
 
-unfoldable pub after-matches : List ℕ → List ℕ → List ℕ → List ℕ → Read
-after-matches h spots matches bytes = then (run (3 * place h headDirections) 32 bytes) (λ directions rest. closed (exposure h spots matches directions) rest)
+unfoldable pub after_matches : List ℕ → List ℕ → List ℕ → List ℕ → Read
+after_matches h spots matches bytes = then (run (3 * place h head_directions) 32 bytes) (λ directions rest. closed (exposure h spots matches directions) rest)
 
-unfoldable pub after-spots : List ℕ → List ℕ → List ℕ → Read
-after-spots h spots bytes = then (run (2 * place h headMatches) 32 bytes) (λ matches rest. after-matches h spots matches rest)
+unfoldable pub after_spots : List ℕ → List ℕ → List ℕ → Read
+after_spots h spots bytes = then (run (2 * place h head_matches) 32 bytes) (λ matches rest. after_matches h spots matches rest)
 
-pub body_is : (h bytes : List ℕ) → body h bytes ≡ then (run (spotNumbers * place h headSpots) 64 bytes) (λ spots rest. after-spots h spots rest)
-unfolding body after-spots after-matches
+pub body_is : (h bytes : List ℕ) → body h bytes ≡ then (run (spot_numbers * place h head_spots) 64 bytes) (λ spots rest. after_spots h spots rest)
+unfolding body after_spots after_matches
 body_is h bytes = refl
 
 module _ (bytes : List ℕ) (small : length bytes ≤ 65536) where
-  pub by-head : reading bytes ≡ then (numbers headBits bytes) (λ h rest. body h rest)
+  pub by_head : reading bytes ≡ then (numbers head_bits bytes) (λ h rest. body h rest)
   unfolding reading
-  by-head = ap (λ (t : Bool). cond t (refused 1) (then (numbers headBits bytes) (λ h rest. body h rest))) (le-ltb 65536 (length bytes) small)
+  by_head = ap (λ (t : Bool). cond t (refused 1) (then (numbers head_bits bytes) (λ h rest. body h rest))) (le-ltb 65536 (length bytes) small)
 
-  pub head-bad : {n : ℕ} → numbers headBits bytes ≡ fault n → reading bytes ≡ refused n
-  head-bad e = by-head ∙ then-fault (λ h rest. body h rest) e
+  pub head_bad : {n : ℕ} → numbers head_bits bytes ≡ fault n → reading bytes ≡ refused n
+  head_bad e = by_head ∙ then_fault (λ h rest. body h rest) e
 
-  module _ (h rest : List ℕ) (e : numbers headBits bytes ≡ values h rest) where
-    read-body : reading bytes ≡ then (run (spotNumbers * place h headSpots) 64 rest) (λ spots rest. after-spots h spots rest)
-    read-body = by-head ∙ then-values (λ h rest. body h rest) e ∙ body_is h rest
+  module _ (h rest : List ℕ) (e : numbers head_bits bytes ≡ values h rest) where
+    read_body : reading bytes ≡ then (run (spot_numbers * place h head_spots) 64 rest) (λ spots rest. after_spots h spots rest)
+    read_body = by_head ∙ then_values (λ h rest. body h rest) e ∙ body_is h rest
 
-    pub spots-bad : {n : ℕ} → run (spotNumbers * place h headSpots) 64 rest ≡ fault n → reading bytes ≡ refused n
-    spots-bad f = read-body ∙ then-fault (λ spots rest. after-spots h spots rest) f
+    pub spots_bad : {n : ℕ} → run (spot_numbers * place h head_spots) 64 rest ≡ fault n → reading bytes ≡ refused n
+    spots_bad f = read_body ∙ then_fault (λ spots rest. after_spots h spots rest) f
 
-    module _ (spots rest1 : List ℕ) (f : run (spotNumbers * place h headSpots) 64 rest ≡ values spots rest1) where
-      read-spots : reading bytes ≡ then (run (2 * place h headMatches) 32 rest1) (λ matches rest. after-matches h spots matches rest)
-      unfolding after-spots
-      read-spots = read-body ∙ then-values (λ spots rest. after-spots h spots rest) f
+    module _ (spots rest1 : List ℕ) (f : run (spot_numbers * place h head_spots) 64 rest ≡ values spots rest1) where
+      read_spots : reading bytes ≡ then (run (2 * place h head_matches) 32 rest1) (λ matches rest. after_matches h spots matches rest)
+      unfolding after_spots
+      read_spots = read_body ∙ then_values (λ spots rest. after_spots h spots rest) f
 
-      pub matches-bad : {n : ℕ} → run (2 * place h headMatches) 32 rest1 ≡ fault n → reading bytes ≡ refused n
-      matches-bad g = read-spots ∙ then-fault (λ matches rest. after-matches h spots matches rest) g
+      pub matches_bad : {n : ℕ} → run (2 * place h head_matches) 32 rest1 ≡ fault n → reading bytes ≡ refused n
+      matches_bad g = read_spots ∙ then_fault (λ matches rest. after_matches h spots matches rest) g
 
-      module _ (matches rest2 : List ℕ) (g : run (2 * place h headMatches) 32 rest1 ≡ values matches rest2) where
-        read-matches : reading bytes ≡ then (run (3 * place h headDirections) 32 rest2) (λ directions rest. closed (exposure h spots matches directions) rest)
-        unfolding after-matches
-        read-matches = read-spots ∙ then-values (λ matches rest. after-matches h spots matches rest) g
+      module _ (matches rest2 : List ℕ) (g : run (2 * place h head_matches) 32 rest1 ≡ values matches rest2) where
+        read_matches : reading bytes ≡ then (run (3 * place h head_directions) 32 rest2) (λ directions rest. closed (exposure h spots matches directions) rest)
+        unfolding after_matches
+        read_matches = read_spots ∙ then_values (λ matches rest. after_matches h spots matches rest) g
 
-        pub directions-bad : {n : ℕ} → run (3 * place h headDirections) 32 rest2 ≡ fault n → reading bytes ≡ refused n
-        directions-bad k = read-matches ∙ then-fault (λ directions rest. closed (exposure h spots matches directions) rest) k
+        pub directions_bad : {n : ℕ} → run (3 * place h head_directions) 32 rest2 ≡ fault n → reading bytes ≡ refused n
+        directions_bad k = read_matches ∙ then_fault (λ directions rest. closed (exposure h spots matches directions) rest) k
 
-        pub read_all : (directions rest3 : List ℕ) → run (3 * place h headDirections) 32 rest2 ≡ values directions rest3
+        pub read_all : (directions rest3 : List ℕ) → run (3 * place h head_directions) 32 rest2 ≡ values directions rest3
             → reading bytes ≡ closed (exposure h spots matches directions) rest3
-        read_all directions rest3 k = read-matches ∙ then-values (λ directions rest. closed (exposure h spots matches directions) rest) k
+        read_all directions rest3 k = read_matches ∙ then_values (λ directions rest. closed (exposure h spots matches directions) rest) k
 
 pub followed : (e : Exposure) (bytes : List ℕ) (to : ℕ) → to < length bytes → closed e (drop to bytes) ≡ refused 4
 unfolding closed

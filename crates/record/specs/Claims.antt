@@ -2,8 +2,8 @@
 use Rattle.std.specs.Prelude.{◌≡◌, ℕ, suc, ◌^◌, ◌≤◌, ◌<◌, List, [], ◌∷◌, ◌++◌, length, take}
 use Rattle.record.specs.declared.Numbered.TheVariants.{Got, Short, Wrong}
 use Rattle.record.specs.Number.{written, number}
-use Rattle.record.specs.Layout.{Exposure, Whole, recordOf}
-use Rattle.record.specs.Reading.{refused, whole, mostBytes, reading}
+use Rattle.record.specs.Layout.{Exposure, Whole, record_of}
+use Rattle.record.specs.Reading.{refused, whole, most_bytes, reading}
 
 -- A list of bytes.
 abbrev pub Octets : List ℕ → Type 0
@@ -59,17 +59,17 @@ NumberWrong =
 
 -- The bytes of a record: those that the layout gives for some exposure.
 abbrev pub RecordBytes : List ℕ → Type 0
-RecordBytes l = (e : Exposure) × Whole e × (l ≡ recordOf e)
+RecordBytes l = (e : Exposure) × Whole e × (l ≡ record_of e)
 
 -- What the layout accepts is read as its values.
 abbrev pub RecordReads : Type 0
-RecordReads = (e : Exposure) → Whole e → length (recordOf e) ≤ mostBytes → reading (recordOf e) ≡ whole e
+RecordReads = (e : Exposure) → Whole e → length (record_of e) ≤ most_bytes → reading (record_of e) ≡ whole e
 
 -- Whatever is read is what the layout says.
 pub record RecordRead (l : List ℕ) (e : Exposure) : Type 0 where
-  pub small : length l ≤ mostBytes
+  pub small : length l ≤ most_bytes
   pub lawful : Whole e
-  pub bytes : l ≡ recordOf e
+  pub bytes : l ≡ record_of e
 
 -- So for every list of bytes.
 abbrev pub RecordMeans : Type 0
@@ -78,27 +78,27 @@ RecordMeans = (l : List ℕ) (e : Exposure) → Octets l → reading l ≡ whole
 -- Refusals 1 to 4, each exactly under its condition.
 abbrev pub RecordLong : Type 0
 RecordLong =
-    (l : List ℕ) → (reading l ≡ refused 1 → mostBytes < length l) × (mostBytes < length l → reading l ≡ refused 1)
+    (l : List ℕ) → (reading l ≡ refused 1 → most_bytes < length l) × (most_bytes < length l → reading l ≡ refused 1)
 
 -- 2: the bytes begin a record, and more of it would follow.
 abbrev pub RecordShort : Type 0
 RecordShort =
-    (l : List ℕ) → Octets l → length l ≤ mostBytes
+    (l : List ℕ) → Octets l → length l ≤ most_bytes
     → (reading l ≡ refused 2 → Begins RecordBytes l) × (Begins RecordBytes l → reading l ≡ refused 2)
 
 -- 3: at some byte the record has no lawful ending any more.
 abbrev pub RecordWrong : Type 0
 RecordWrong =
-    (l : List ℕ) → Octets l → length l ≤ mostBytes
+    (l : List ℕ) → Octets l → length l ≤ most_bytes
     → (reading l ≡ refused 3 → (i : ℕ) × SpoiledAt RecordBytes l i)
     × ((i : ℕ) → SpoiledAt RecordBytes l i → reading l ≡ refused 3)
 
 -- A record, and bytes after it.
 abbrev pub Followed : List ℕ → Type 0
-Followed l = (e : Exposure) × (b : ℕ) × (rest : List ℕ) × Whole e × (l ≡ recordOf e ++ b ∷ rest)
+Followed l = (e : Exposure) × (b : ℕ) × (rest : List ℕ) × Whole e × (l ≡ record_of e ++ b ∷ rest)
 
 -- 4: "Bytes follow the last number."
 abbrev pub RecordFollowed : Type 0
 RecordFollowed =
-    (l : List ℕ) → Octets l → length l ≤ mostBytes
+    (l : List ℕ) → Octets l → length l ≤ most_bytes
     → (reading l ≡ refused 4 → Followed l) × (Followed l → reading l ≡ refused 4)

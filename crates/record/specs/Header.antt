@@ -4,23 +4,23 @@ use Rattle.std.specs.Float.{Format, binary32, binary64}
 use Rattle.std.specs.Float.Ieee.{of_bits}
 use Rattle.lists.specs.Fronted.{fronted}
 use Rattle.rounding.specs.Arith.{zero64}
-use Rattle.panel.specs.Spots.{spotNumbers}
+use Rattle.panel.specs.Spots.{spot_numbers}
 use Rattle.record.specs.Layout.{Exposure}
 use Rattle.record.specs.Reading.{Read, refused, whole, reading}
 use Rattle.record.specs.declared.Header.{Header}
 
 -- "Floats travel as their bits."
-unfoldable pub floatsOf : Format → List ℕ → List Float
-floatsOf f [] = []
-floatsOf f (b ∷ bs) = of_bits f b ∷ floatsOf f bs
+unfoldable pub floats_of : Format → List ℕ → List Float
+floats_of f [] = []
+floats_of f (b ∷ bs) = of_bits f b ∷ floats_of f bs
 
 -- three of the rotation's entries
-abbrev pub rotationRow : List ℕ → ℕ → ℕ → ℕ → List Float
-rotationRow l i j k = of_bits binary32 (get_or l i 0) ∷ of_bits binary32 (get_or l j 0) ∷ of_bits binary32 (get_or l k 0) ∷ []
+abbrev pub rotation_row : List ℕ → ℕ → ℕ → ℕ → List Float
+rotation_row l i j k = of_bits binary32 (get_or l i 0) ∷ of_bits binary32 (get_or l j 0) ∷ of_bits binary32 (get_or l k 0) ∷ []
 
 -- "A refusal gives its number; pose and counts are zero."
-unfoldable pub refusedHeader : ℕ → Header
-refusedHeader n =
+unfoldable pub refused_header : ℕ → Header
+refused_header n =
     let z = zero64 ∷ zero64 ∷ zero64 ∷ [] in
     record {
       refusal = n;
@@ -39,10 +39,10 @@ refusedHeader n =
     }
 
 -- The numbers of a record, with the counts of its lists.
-unfoldable pub headerOf : Exposure → Header
-headerOf e = record {
+unfoldable pub header_of : Exposure → Header
+header_of e = record {
   refusal = 0;
-  spots = length e.spots / spotNumbers;
+  spots = length e.spots / spot_numbers;
   matches = length e.matches / 2;
   directions = length e.directions / 3;
   mirror = eqb e.mirror 1;
@@ -51,9 +51,9 @@ headerOf e = record {
   cut = of_bits binary64 e.cut;
   limit = e.limit;
   rounds = e.rounds;
-  rot0 = rotationRow e.rotation 0 1 2;
-  rot1 = rotationRow e.rotation 3 4 5;
-  rot2 = rotationRow e.rotation 6 7 8;
+  rot0 = rotation_row e.rotation 0 1 2;
+  rot1 = rotation_row e.rotation 3 4 5;
+  rot2 = rotation_row e.rotation 6 7 8;
 }
 
 -- The header, and the three lists afterwards.
@@ -75,15 +75,15 @@ room e spots matches directions =
 
 -- What was read, taken into the lists: a refusal leaves them as they came.
 unfoldable pub taken : Read → List Float → List ℕ → List Float → Intake
-unfolding refusedHeader headerOf floatsOf
-taken (refused n) spots matches directions = intake (refusedHeader n) spots matches directions
+unfolding refused_header header_of floats_of
+taken (refused n) spots matches directions = intake (refused_header n) spots matches directions
 taken (whole e) spots matches directions =
     cond (room e spots matches directions)
-    (intake (headerOf e) (fronted (floatsOf binary64 e.spots) spots) (fronted e.matches matches)
-    (fronted (floatsOf binary32 e.directions) directions))
-    (intake (refusedHeader 11) spots matches directions)
+    (intake (header_of e) (fronted (floats_of binary64 e.spots) spots) (fronted e.matches matches)
+    (fronted (floats_of binary32 e.directions) directions))
+    (intake (refused_header 11) spots matches directions)
 
 -- The whole of reading a record into three lent lists.
-unfoldable pub readRecord : List ℕ → List Float → List ℕ → List Float → Intake
+unfoldable pub read_record : List ℕ → List Float → List ℕ → List Float → Intake
 unfolding taken reading
-readRecord bytes spots matches directions = taken (reading bytes) spots matches directions
+read_record bytes spots matches directions = taken (reading bytes) spots matches directions

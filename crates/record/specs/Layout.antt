@@ -1,6 +1,6 @@
 -- 01, "The exposure record": its fields, and the bytes that hold them. Definitions only. Assumes nothing.
 use Rattle.std.specs.Prelude.{◌≡◌, ℕ, ◌/◌, ◌%◌, ◌^◌, ◌<◌, List, [], ◌∷◌, ◌++◌, length}
-use Rattle.panel.specs.Spots.{spotNumbers}
+use Rattle.panel.specs.Spots.{spot_numbers}
 use Rattle.record.specs.Number.{written}
 
 -- What a record holds: whole numbers, and floats as their bits. Spots are three numbers each (x, y, weight), matches two, directions three; the
@@ -38,21 +38,21 @@ each b (v ∷ vs) = field b v ∷ each b vs
 unfoldable pub fields : Exposure → List Field
 unfolding each
 fields e =
-    field 32 (length e.spots / spotNumbers) ∷ field 32 (length e.matches / 2) ∷ field 32 (length e.directions / 3)
+    field 32 (length e.spots / spot_numbers) ∷ field 32 (length e.matches / 2) ∷ field 32 (length e.directions / 3)
     ∷ field 1 e.mirror ∷ field 64 e.scale ∷ field 32 e.radius ∷ field 64 e.cut
     ∷ field 32 e.limit ∷ field 32 e.rounds
     ∷ each 32 e.rotation ++ each 64 e.spots ++ each 32 e.matches ++ each 32 e.directions
 
 -- Each number in its shortest form, one after another.
-unfoldable pub writtenFields : List Field → List ℕ
+unfoldable pub written_fields : List Field → List ℕ
 unfolding written
-writtenFields [] = []
-writtenFields (f ∷ fs) = written f.value ++ writtenFields fs
+written_fields [] = []
+written_fields (f ∷ fs) = written f.value ++ written_fields fs
 
 -- The bytes of a record.
-unfoldable pub recordOf : Exposure → List ℕ
-unfolding fields writtenFields
-recordOf e = writtenFields (fields e)
+unfoldable pub record_of : Exposure → List ℕ
+unfolding fields written_fields
+record_of e = written_fields (fields e)
 
 -- ---- which exposures have a record
 
@@ -64,7 +64,7 @@ AllFit (f ∷ fs) = (f.value < 2 ^ f.bits) × AllFit fs
 -- Nine entries of a rotation, three numbers for each spot and direction, two for each match, and every number within its field.
 pub record Whole (e : Exposure) : Type 0 where
   pub rotation : length e.rotation ≡ 9
-  pub spots : length e.spots % spotNumbers ≡ 0
+  pub spots : length e.spots % spot_numbers ≡ 0
   pub matches : length e.matches % 2 ≡ 0
   pub directions : length e.directions % 3 ≡ 0
   pub fit : AllFit (fields e)

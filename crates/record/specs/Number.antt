@@ -26,15 +26,15 @@ unfoldable pub leaves : ℕ → ℕ → ℕ → ℕ → Bool
 leaves most v weight b = ltb (v + b % 128 * weight + 128 * weight) most
 
 -- The value and how many bytes it took, refusal 2 (the bytes end inside the number) or refusal 3 (a byte leaves no lawful ending).
-unfoldable pub numberFrom : List ℕ → ℕ → ℕ → ℕ → ℕ → Numbered
+unfoldable pub number_from : List ℕ → ℕ → ℕ → ℕ → ℕ → Numbered
 unfolding ends leaves
-numberFrom [] most v weight n = Short
-numberFrom (b ∷ bs) most v weight n =
+number_from [] most v weight n = Short
+number_from (b ∷ bs) most v weight n =
     cond (ltb b 128)
     (cond (ends most v weight b) (Got (v + b * weight) (suc n)) Wrong)
-    (cond (leaves most v weight b) (numberFrom bs most (v + b % 128 * weight) (128 * weight) (suc n)) Wrong)
+    (cond (leaves most v weight b) (number_from bs most (v + b % 128 * weight) (128 * weight) (suc n)) Wrong)
 
 -- A number of so many bits at the front of the bytes.
 unfoldable pub number : ℕ → List ℕ → Numbered
-unfolding numberFrom
-number bits bytes = numberFrom bytes (2 ^ bits) 0 1 0
+unfolding number_from
+number bits bytes = number_from bytes (2 ^ bits) 0 1 0

@@ -2,13 +2,13 @@
 use Rattle.std.specs.Prelude.{◌≡◌, ℕ, zero, suc, ◌+◌, ◌*◌, ◌^◌, ◌≤◌, ◌<◌, List, eqb, length, get_or, drop}
 use Rattle.std.specs.Float.{binary32, binary64}
 use Rattle.std.specs.Float.Ieee.{of_bits}
-use Rattle.panel.specs.Spots.{spotNumbers}
+use Rattle.panel.specs.Spots.{spot_numbers}
 use Rattle.record.specs.declared.Numbered.TheVariants.{Got}
 use Rattle.record.specs.Number.{number}
-use Rattle.record.specs.Head.{headSpots, headMatches, headDirections, headMirror, headScale, headRadius, headCut}
-use Rattle.record.specs.Head.{headLimit, headRounds, headRotation, headBits, place, exposure}
+use Rattle.record.specs.Head.{head_spots, head_matches, head_directions, head_mirror, head_scale, head_radius, head_cut}
+use Rattle.record.specs.Head.{head_limit, head_rounds, head_rotation, head_bits, place, exposure}
 use Rattle.record.specs.Reading.{Values, values, fault, numbers, run, refused, whole, reading}
-use Rattle.record.specs.Header.{rotationRow}
+use Rattle.record.specs.Header.{rotation_row}
 use Rattle.record.specs.declared.Header.{Header}
 use Rattle.record.specs.declared.heads.Head.{Head}
 use Rattle.record.specs.declared.runs.Passed.{Passed}
@@ -29,8 +29,8 @@ abbrev pub Fit : List ℕ → List ℕ → Type 0
 Fit bits vs = (i : ℕ) → i < length bits → get_or vs i 0 < 2 ^ get_or bits i 0
 
 -- What the head comes to: its refusal, or its numbers and the place after them.
-abbrev pub headOf : List ℕ → Head → Type 0
-headOf bytes r = numbers headBits bytes ≡ answered r.refusal (values r.numbers (drop r.to bytes))
+abbrev pub head_of : List ℕ → Head → Type 0
+head_of bytes r = numbers head_bits bytes ≡ answered r.refusal (values r.numbers (drop r.to bytes))
 
 -- A run that was gone over: some values, and the place after them.
 pub record Over (x : Values) (bytes : List ℕ) (r : Passed) : Type 0 where
@@ -55,10 +55,10 @@ pub record Lawful (bytes : List ℕ) (r : Found) : Type 0 where
   pub spots : List ℕ
   pub matches : List ℕ
   pub directions : List ℕ
-  pub fit : Fit headBits r.numbers
-  pub spotsAt : Standing (spotNumbers * place r.numbers headSpots) 64 bytes r.spots spots
-  pub matchesAt : Standing (2 * place r.numbers headMatches) 32 bytes r.matches matches
-  pub directionsAt : Standing (3 * place r.numbers headDirections) 32 bytes r.directions directions
+  pub fit : Fit head_bits r.numbers
+  pub spots_at : Standing (spot_numbers * place r.numbers head_spots) 64 bytes r.spots spots
+  pub matches_at : Standing (2 * place r.numbers head_matches) 32 bytes r.matches matches
+  pub directions_at : Standing (3 * place r.numbers head_directions) 32 bytes r.directions directions
   pub is : reading bytes ≡ whole (exposure r.numbers spots matches directions)
 
 -- What the first pass hands on: the number of the refusal, or a lawful record's numbers and places.
@@ -67,19 +67,19 @@ pub record FoundIn (bytes : List ℕ) (r : Found) : Type 0 where
   pub lawful : r.refusal ≡ 0 → Lawful bytes r
 
 -- What the head says.
-unfoldable pub headerFrom : List ℕ → Header
-headerFrom h = record {
+unfoldable pub header_from : List ℕ → Header
+header_from h = record {
   refusal = 0;
-  spots = place h headSpots;
-  matches = place h headMatches;
-  directions = place h headDirections;
-  mirror = eqb (place h headMirror) 1;
-  scale = of_bits binary64 (place h headScale);
-  radius = of_bits binary32 (place h headRadius);
-  cut = of_bits binary64 (place h headCut);
-  limit = place h headLimit;
-  rounds = place h headRounds;
-  rot0 = rotationRow (drop headRotation h) 0 1 2;
-  rot1 = rotationRow (drop headRotation h) 3 4 5;
-  rot2 = rotationRow (drop headRotation h) 6 7 8;
+  spots = place h head_spots;
+  matches = place h head_matches;
+  directions = place h head_directions;
+  mirror = eqb (place h head_mirror) 1;
+  scale = of_bits binary64 (place h head_scale);
+  radius = of_bits binary32 (place h head_radius);
+  cut = of_bits binary64 (place h head_cut);
+  limit = place h head_limit;
+  rounds = place h head_rounds;
+  rot0 = rotation_row (drop head_rotation h) 0 1 2;
+  rot1 = rotation_row (drop head_rotation h) 3 4 5;
+  rot2 = rotation_row (drop head_rotation h) 6 7 8;
 }

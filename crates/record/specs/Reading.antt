@@ -1,11 +1,11 @@
 -- Reading a record: refusals 1 to 4, and its fields. Definitions only. Assumes nothing.
 use Rattle.std.specs.Prelude.{ℕ, zero, suc, ◌*◌, cond, List, [], ◌∷◌, ltb, length, drop}
-use Rattle.panel.specs.Spots.{spotNumbers}
+use Rattle.panel.specs.Spots.{spot_numbers}
 use Rattle.record.specs.declared.Numbered.{Numbered}
 use Rattle.record.specs.declared.Numbered.TheVariants.{Got, Short, Wrong}
 use Rattle.record.specs.Number.{number}
 use Rattle.record.specs.Layout.{Exposure}
-use Rattle.record.specs.Head.{headSpots, headMatches, headDirections, headBits, place, exposure}
+use Rattle.record.specs.Head.{head_spots, head_matches, head_directions, head_bits, place, exposure}
 
 -- Numbers and the bytes after them, or the refusal of the first fault.
 pub data Values : Type 0 where
@@ -56,16 +56,16 @@ then (fault n) f = refused n
 unfoldable pub body : List ℕ → List ℕ → Read
 unfolding run then closed
 body h bytes =
-    then (run (spotNumbers * place h headSpots) 64 bytes) (λ spots afterSpots.
-    then (run (2 * place h headMatches) 32 afterSpots) (λ matches afterMatches.
-    then (run (3 * place h headDirections) 32 afterMatches) (λ directions rest.
+    then (run (spot_numbers * place h head_spots) 64 bytes) (λ spots after_spots.
+    then (run (2 * place h head_matches) 32 after_spots) (λ matches after_matches.
+    then (run (3 * place h head_directions) 32 after_matches) (λ directions rest.
     closed (exposure h spots matches directions) rest)))
 
 -- 1: "The record is longer than 65,536 bytes."
-abbrev pub mostBytes : ℕ
-mostBytes = 65536
+abbrev pub most_bytes : ℕ
+most_bytes = 65536
 
 -- "The record is longer than 65,536 bytes" comes first; of 2 and 3 the first fault along the record counts.
 unfoldable pub reading : List ℕ → Read
 unfolding numbers then body
-reading bytes = cond (ltb mostBytes (length bytes)) (refused 1) (then (numbers headBits bytes) (λ h rest. body h rest))
+reading bytes = cond (ltb most_bytes (length bytes)) (refused 1) (then (numbers head_bits bytes) (λ h rest. body h rest))

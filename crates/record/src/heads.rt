@@ -1,7 +1,7 @@
 // The head of a record, as whole numbers: three counts, mirror, scale, radius, plane cut, limit, rounds, and the rotation.
 ghost use Rattle.std.specs.Prelude.{◌≡◌, ◌+◌, ◌^◌, ◌<◌, get_or};
-ghost use Rattle.record.specs.Head.{headSize, headBits};
-ghost use Rattle.record.specs.Passes.{headOf};
+ghost use Rattle.record.specs.Head.{head_size, head_bits};
+ghost use Rattle.record.specs.Passes.{head_of};
 
 use crate::Numbered;
 use crate::numbers::{TOP_32, TOP_64, number_to};
@@ -40,8 +40,8 @@ pub(crate) struct Head {
 
 // The greatest that the number at this place may be: the mirror has 1 bit, the scale and the cut 64, and any other 32.
 fn top_at(i: usize) -> u64
-    requires { i < headSize }
-    ensures { result + 1 ≡ 2 ^ get_or headBits i 0 }
+    requires { i < head_size }
+    ensures { result + 1 ≡ 2 ^ get_or head_bits i 0 }
 {
     if i == MIRROR {
         return 1;
@@ -57,7 +57,7 @@ fn top_at(i: usize) -> u64
 
 // The head of a record, up to the first fault.
 pub(crate) fn read_head(bytes: &[u8]) -> Head
-    ensures { headOf bytes.now result }
+    ensures { head_of bytes.now result }
 {
     let mut h = [0u64; COUNT];
     let mut to: usize = 0;

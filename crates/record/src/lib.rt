@@ -3,7 +3,7 @@
 
 ghost use Rattle.std.specs.Prelude.{◌≡◌, drop, min};
 ghost use Rattle.record.specs.Number.{number};
-ghost use Rattle.record.specs.Header.{intake, readRecord};
+ghost use Rattle.record.specs.Header.{intake, read_record};
 
 use crate::heads::{DIRECTIONS, MATCHES, SPOTS};
 use crate::reports::{accepted, refused};
@@ -58,7 +58,7 @@ pub fn read_record(
     directions: &mut [f32],
 ) -> Header
     ensures { intake result spots.new matches.new directions.new
-        ≡ readRecord bytes.now spots.old matches.old directions.old }
+        ≡ read_record bytes.now spots.old matches.old directions.old }
 {
     let f = look_over(bytes);
     if f.refusal != 0 {

@@ -2,9 +2,9 @@
 ghost use Rattle.std.specs.Prelude.{◌≡◌, ◌+◌, ◌^◌, ◌≤◌, ◌<◌};
 ghost use Rattle.std.specs.Float.{binary32, binary64};
 ghost use Rattle.std.specs.Float.Ieee.{of_bits};
-ghost use Rattle.record.specs.Head.{headRotation, headSize, headBits};
-ghost use Rattle.record.specs.Header.{rotationRow, refusedHeader};
-ghost use Rattle.record.specs.Passes.{Fit, headerFrom};
+ghost use Rattle.record.specs.Head.{head_rotation, head_size, head_bits};
+ghost use Rattle.record.specs.Header.{rotation_row, refused_header};
+ghost use Rattle.record.specs.Passes.{Fit, header_from};
 
 use crate::Header;
 use crate::heads::{
@@ -14,7 +14,7 @@ use rounding::{canonical32, canonical64, from_bits32, from_bits64};
 
 // A refusal gives its number, and all else is zero.
 pub(crate) fn refused(refusal: usize) -> Header
-    ensures { result ≡ refusedHeader refusal }
+    ensures { result ≡ refused_header refusal }
 {
     Header {
         refusal,
@@ -50,16 +50,16 @@ pub(crate) fn double(n: u64) -> f64
 
 // A row of the rotation, whose first entry is at this place of a head whose numbers are known to fit.
 fn row(h: &[u64; COUNT], at: usize) -> [f32; 3]
-    requires { Fit headBits h.now × (headRotation ≤ at) × (at + 2 < headSize) }
-    ensures { result ≡ rotationRow h.now at (at + 1) (at + 2) }
+    requires { Fit head_bits h.now × (head_rotation ≤ at) × (at + 2 < head_size) }
+    ensures { result ≡ rotation_row h.now at (at + 1) (at + 2) }
 {
     [single(h[at]), single(h[at + 1]), single(h[at + 2])]
 }
 
 // The header of a record by its head, whose numbers are known to fit.
 pub(crate) fn accepted(h: &[u64; COUNT]) -> Header
-    requires { Fit headBits h.now }
-    ensures { result ≡ headerFrom h.now }
+    requires { Fit head_bits h.now }
+    ensures { result ≡ header_from h.now }
 {
     let rot0 = row(h, ROTATION);
     let rot1 = row(h, ROTATION + 3);

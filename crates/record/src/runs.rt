@@ -2,7 +2,7 @@
 ghost use Rattle.std.specs.Prelude.{◌≡◌, List, ℕ, ◌+◌, ◌^◌, length, drop};
 ghost use Rattle.std.specs.Float.{binary32, binary64};
 ghost use Rattle.record.specs.Reading.{run};
-ghost use Rattle.record.specs.Header.{floatsOf};
+ghost use Rattle.record.specs.Header.{floats_of};
 ghost use Rattle.record.specs.Passes.{Greatest, Over, Standing};
 
 use crate::Numbered;
@@ -45,7 +45,7 @@ pub(crate) fn skip(bytes: &[u8], at: usize, count: usize, top: u64) -> Passed
 pub(crate) fn fill_doubles(bytes: &[u8], at: usize, list: &mut [f64])
     requires { (vs : List ℕ) × Standing (length list.old) 64 bytes.now at vs }
     ensures { (vs : List ℕ) → Standing (length list.old) 64 bytes.now at vs
-        → list.new ≡ floatsOf binary64 vs }
+        → list.new ≡ floats_of binary64 vs }
 {
     let mut to = at;
     let mut i: usize = 0;
@@ -61,7 +61,7 @@ pub(crate) fn fill_doubles(bytes: &[u8], at: usize, list: &mut [f64])
 pub(crate) fn fill_singles(bytes: &[u8], at: usize, list: &mut [f32])
     requires { (vs : List ℕ) × Standing (length list.old) 32 bytes.now at vs }
     ensures { (vs : List ℕ) → Standing (length list.old) 32 bytes.now at vs
-        → list.new ≡ floatsOf binary32 vs }
+        → list.new ≡ floats_of binary32 vs }
 {
     let mut to = at;
     let mut i: usize = 0;

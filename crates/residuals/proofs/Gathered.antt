@@ -10,43 +10,43 @@ use lib.Ieee.{Float, nan, eq}
 use lib.ListN.{get_or, length, take, drop, set, replicate, length-append, take-append-drop, get_or-append}
 use lib.Seq.{take-suc, take_at, drop_at, drop-cons, set_at, get_or-take, length-take-le}
 use Rattle.rounding.specs.Arith.{zero64}
-use Rattle.stats.specs.Median.{medianMadSigma, Summarised}
+use Rattle.stats.specs.Median.{median_mad_sigma, Summarised}
 use Rattle.stats.specs.declared.MedianSigma.{MedianSigma}
-use Rattle.solve.specs.Constants.{minusOne}
-use Rattle.residuals.specs.Residual.{inFront, residualMedianSigma, Measured}
+use Rattle.solve.specs.Constants.{minus_one}
+use Rattle.residuals.specs.Residual.{in_front, residual_median_sigma, Measured}
 
 picked : (b : Bool) (x : Float) (xs ys : List Float) → cond b (xs ++ ys) (x ∷ (xs ++ ys)) ≡ cond b xs (x ∷ xs) ++ ys
 picked true x xs ys = refl
 picked false x xs ys = refl
 
-front-append : (xs ys : List Float) → inFront (xs ++ ys) ≡ inFront xs ++ inFront ys
-unfolding inFront
-front-append [] ys = refl
-front-append (x ∷ xs) ys = rw (front-append xs ys) (picked (eq x minusOne) x (inFront xs) (inFront ys))
+front_append : (xs ys : List Float) → in_front (xs ++ ys) ≡ in_front xs ++ in_front ys
+unfolding in_front
+front_append [] ys = refl
+front_append (x ∷ xs) ys = rw (front_append xs ys) (picked (eq x minus_one) x (in_front xs) (in_front ys))
 
 -- The first residuals, and one more.
 module _ (l : List Float) (i : ℕ) (h : i < length l) where
-  split : inFront (take (i + 1) l) ≡ inFront (take i l) ++ inFront (get_or l i nan ∷ [])
-  split = rw (add-one i, take-suc l i nan h) (front-append (take i l) (get_or l i nan ∷ []))
+  split : in_front (take (i + 1) l) ≡ in_front (take i l) ++ in_front (get_or l i nan ∷ [])
+  split = rw (add-one i, take-suc l i nan h) (front_append (take i l) (get_or l i nan ∷ []))
 
-  pub front-more : eq (get_or l i nan) minusOne ≡ false → inFront (take (i + 1) l) ≡ inFront (take i l) ++ (get_or l i nan ∷ [])
-  unfolding inFront
-  front-more e = split ∙ rw e
+  pub front_more : eq (get_or l i nan) minus_one ≡ false → in_front (take (i + 1) l) ≡ in_front (take i l) ++ (get_or l i nan ∷ [])
+  unfolding in_front
+  front_more e = split ∙ rw e
 
-  pub front_same : eq (get_or l i nan) minusOne ≡ true → inFront (take (i + 1) l) ≡ inFront (take i l)
-  unfolding inFront
+  pub front_same : eq (get_or l i nan) minus_one ≡ true → in_front (take (i + 1) l) ≡ in_front (take i l)
+  unfolding in_front
   front_same e = split ∙ rw (e, append-nil)
 
-pub front-none : (l : List Float) (n : ℕ) → l ≡ take n l ++ inFront (take 0 l) ++ drop (n + 0) l
-unfolding inFront
-front-none l n = rw (append-nil, add-zero n, take-append-drop)
+pub front_none : (l : List Float) (n : ℕ) → l ≡ take n l ++ in_front (take 0 l) ++ drop (n + 0) l
+unfolding in_front
+front_none l n = rw (append-nil, add-zero n, take-append-drop)
 
 -- After p the list is as it came: so it is when p has grown by one at its end, which is written there.
 push : (p l : List Float) (n : ℕ) (a : Float) → length p ≡ n → n < length l → set (p ++ drop n l) n a ≡ p ++ (a ∷ []) ++ drop (n + 1) l
 push p l n a e h = rw (drop-cons l n a h, set_at p (get_or l n a) (drop (suc n) l) a n e, add-one, append_assoc)
 
-module _ (o l : List Float) (n k i : ℕ) (room : 2 * n ≤ length o) (h : i < n) (few : k ≡ length (inFront (take i o)))
-    (is : l ≡ take n o ++ inFront (take i o) ++ drop (n + k) o) where
+module _ (o l : List Float) (n k i : ℕ) (room : 2 * n ≤ length o) (h : i < n) (few : k ≡ length (in_front (take i o)))
+    (is : l ≡ take n o ++ in_front (take i o) ++ drop (n + k) o) where
   front : length (take n o) ≡ n
   front = length-take-le n o (omega arith)
 
@@ -54,24 +54,24 @@ module _ (o l : List Float) (n k i : ℕ) (room : 2 * n ≤ length o) (h : i < n
   pub still : get_or l i nan ≡ get_or o i nan
   still =
       let a : i < length (take n o) = omega (arith, front) in
-      let b : i < length (take n o ++ inFront (take i o)) = simp length-append (omega arith) in
-      rw (is, get_or-append (take n o ++ inFront (take i o)) (drop (n + k) o) nan i b, get_or-append (take n o) (inFront (take i o)) nan i a, get_or-take n o i nan h)
+      let b : i < length (take n o ++ in_front (take i o)) = simp length-append (omega arith) in
+      rw (is, get_or-append (take n o ++ in_front (take i o)) (drop (n + k) o) nan i b, get_or-append (take n o) (in_front (take i o)) nan i a, get_or-take n o i nan h)
 
-  pub copied : n + k < length o → eq (get_or l i nan) minusOne ≡ false → (k + 1 ≡ length (inFront (take (i + 1) o)))
-      × (set l (n + k) (get_or l i nan) ≡ take n o ++ inFront (take (i + 1) o) ++ drop (n + (k + 1)) o)
+  pub copied : n + k < length o → eq (get_or l i nan) minus_one ≡ false → (k + 1 ≡ length (in_front (take (i + 1) o)))
+      × (set l (n + k) (get_or l i nan) ≡ take n o ++ in_front (take (i + 1) o) ++ drop (n + (k + 1)) o)
   copied r e =
       let w : i < length o = omega arith in
-      let f = front-more o i w (ap (λ (x : Float). eq x minusOne) (sym still) ∙ e) in
-      let p : length (take n o ++ inFront (take i o)) ≡ n + k = simp length-append (omega (arith, front)) in
+      let f = front_more o i w (ap (λ (x : Float). eq x minus_one) (sym still) ∙ e) in
+      let p : length (take n o ++ in_front (take i o)) ≡ n + k = simp length-append (omega (arith, front)) in
       let q : n + (k + 1) ≡ n + k + 1 = omega arith in (
         rw (f, length-append) (omega arith),
-        rw (still, q, is, f, push (take n o ++ inFront (take i o)) o (n + k) (get_or o i nan) p r, append_assoc (take n o) (inFront (take i o)) (get_or o i nan ∷ [])),
+        rw (still, q, is, f, push (take n o ++ in_front (take i o)) o (n + k) (get_or o i nan) p r, append_assoc (take n o) (in_front (take i o)) (get_or o i nan ∷ [])),
       )
 
-  pub passed : eq (get_or l i nan) minusOne ≡ true → (k ≡ length (inFront (take (i + 1) o))) × (l ≡ take n o ++ inFront (take (i + 1) o) ++ drop (n + k) o)
+  pub passed : eq (get_or l i nan) minus_one ≡ true → (k ≡ length (in_front (take (i + 1) o))) × (l ≡ take n o ++ in_front (take (i + 1) o) ++ drop (n + k) o)
   passed e =
       let w : i < length o = omega arith in
-      let f = front_same o i w (ap (λ (x : Float). eq x minusOne) (sym still) ∙ e) in
+      let f = front_same o i w (ap (λ (x : Float). eq x minus_one) (sym still) ∙ e) in
       rw f (few, is)
 
 -- The part after the first n residuals: it is those in front of the plane, and once it has become z it stands between the two others.
@@ -91,36 +91,36 @@ module _ (o l f z : List Float) (n k : ℕ) (long : n ≤ length o) (few : k ≡
       rw (e, behind, a, drop_at f (drop (n + k) o) k (sym few), few, ← append_assoc)
 
 -- those in front are no more than all
-kept-few : (b : Bool) (x : Float) (xs : List Float) (n : ℕ) → length xs ≤ n → length (cond b xs (x ∷ xs)) ≤ suc n
-kept-few true x xs n h = omega arith
-kept-few false x xs n h = omega arith
+kept_few : (b : Bool) (x : Float) (xs : List Float) (n : ℕ) → length xs ≤ n → length (cond b xs (x ∷ xs)) ≤ suc n
+kept_few true x xs n h = omega arith
+kept_few false x xs n h = omega arith
 
-front-few : (xs : List Float) → length (inFront xs) ≤ length xs
-unfolding inFront
-front-few [] = omega arith
-front-few (x ∷ xs) = kept-few (eq x minusOne) x (inFront xs) (length xs) (front-few xs)
+front_few : (xs : List Float) → length (in_front xs) ≤ length xs
+unfolding in_front
+front_few [] = omega arith
+front_few (x ∷ xs) = kept_few (eq x minus_one) x (in_front xs) (length xs) (front_few xs)
 
-module _ (l : List Float) (n : ℕ) {m k : ℕ} (first : m ≡ min n (length l / 2)) (few : k ≡ length (inFront (take m l))) where
+module _ (l : List Float) (n : ℕ) {m k : ℕ} (first : m ≡ min n (length l / 2)) (few : k ≡ length (in_front (take m l))) where
   half : m ≤ length l / 2
   half = omega (arith, min-le_right n (length l / 2))
 
   pub room : m + k ≤ length l
   room =
       let a : length (take m l) ≡ m = length-take-le m l (omega (arith, half)) in
-      omega (arith, half, front-few (take m l))
+      omega (arith, half, front_few (take m l))
 
   -- What the statistics leave of the whole, from what they leave of the part.
-  pub measured : (w z : List Float) {r : MedianSigma} → w ≡ take m l ++ inFront (take m l) ++ drop (m + k) l → Summarised (take (m + k - m) (drop m w)) z r
+  pub measured : (w z : List Float) {r : MedianSigma} → w ≡ take m l ++ in_front (take m l) ++ drop (m + k) l → Summarised (take (m + k - m) (drop m w)) z r
       → Measured l (take m w ++ (z ++ drop (m + k - m) (drop m w))) n r
-  unfolding residualMedianSigma
+  unfolding residual_median_sigma
   measured w z is s =
-      let f = inFront (take m l) in
+      let f = in_front (take m l) in
       let long : m ≤ length l = omega (arith, half) in
       let vals = part l w f z m k long few is in
       record {
-        result = s.result ∙ ap medianMadSigma vals ∙ ap (λ (x : ℕ). medianMadSigma (inFront (take x l))) first;
+        result = s.result ∙ ap median_mad_sigma vals ∙ ap (λ (x : ℕ). median_mad_sigma (in_front (take x l))) first;
         lists =
             around l w f z m k long few is
             ∙ ap (λ (y : List Float). take m l ++ y ++ drop (m + length f) l) (s.scratch ∙ ap (λ (v : List Float). replicate (length v) zero64) vals)
-            ∙ ap (λ (x : ℕ). take x l ++ replicate (length (inFront (take x l))) zero64 ++ drop (x + length (inFront (take x l))) l) first;
+            ∙ ap (λ (x : ℕ). take x l ++ replicate (length (in_front (take x l))) zero64 ++ drop (x + length (in_front (take x l))) l) first;
       }

@@ -1,6 +1,6 @@
 // The matches that lie too far off are dropped.
 ghost use Rattle.std.specs.Prelude.{◌≡◌, List, ◌++◌, ℕ, ◌*◌, ◌/◌, ◌≤◌, length, drop};
-ghost use Rattle.residuals.specs.Residual.{keeps, keptFrom, clipped, madClipMatches};
+ghost use Rattle.residuals.specs.Residual.{keeps, kept_from, clipped, mad_clip_matches};
 
 use crate::{Clip, NO_RESIDUAL};
 use lists::float_at;
@@ -23,7 +23,7 @@ fn keeps(threshold: f64, x: f64) -> bool
 
 // How many of the first n matches are kept. The matches themselves are not looked at, so it is so many of any list of them.
 fn count_kept(residuals: &[f64], n: usize, threshold: f64) -> usize
-    ensures { (result ≤ n) × ((ms : List ℕ) → length (keptFrom threshold residuals.now ms 0 n) ≡ 2 * result) }
+    ensures { (result ≤ n) × ((ms : List ℕ) → length (kept_from threshold residuals.now ms 0 n) ≡ 2 * result) }
 {
     let mut k: usize = 0;
     let mut i: usize = 0;
@@ -39,9 +39,9 @@ fn count_kept(residuals: &[f64], n: usize, threshold: f64) -> usize
 // Those that are kept move to the front, and what stands after them stays.
 fn compact(residuals: &[f64], matches: &mut [usize], threshold: f64)
     ensures { matches.new ≡
-        keptFrom threshold residuals.now matches.old 0 (length matches.old / 2)
+        kept_from threshold residuals.now matches.old 0 (length matches.old / 2)
         ++ drop (length
-        (keptFrom threshold residuals.now matches.old 0 (length matches.old / 2)))
+        (kept_from threshold residuals.now matches.old 0 (length matches.old / 2)))
         matches.old }
 {
     let n = matches.len() / 2;
@@ -62,7 +62,7 @@ fn compact(residuals: &[f64], matches: &mut [usize], threshold: f64)
 // The matches whose residuals are at most median + 3 sigma are kept, if that drops some of them and leaves enough; else all stay.
 pub fn mad_clip_matches(residuals: &[f64], matches: &mut [usize], median: f64, sigma: f64) -> Clip
     ensures { clipped result matches.new
-        ≡ madClipMatches residuals.now matches.old median sigma }
+        ≡ mad_clip_matches residuals.now matches.old median sigma }
 {
     let n = matches.len() / 2;
     let threshold = median + CLIP_NSIGMA * sigma;

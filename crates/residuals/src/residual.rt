@@ -1,9 +1,9 @@
 // What is left, on the tangent plane, between each match's spot and its direction.
 ghost use Rattle.std.specs.Prelude.{◌≡◌, cond, List, ◌++◌, ◌+◌, ◌*◌, ◌≤◌, length, take, drop, Float};
 ghost use Rattle.std.specs.Float.Ieee.{eq};
-ghost use Rattle.solve.specs.Constants.{minusOne};
-ghost use Rattle.fit.specs.Rows.{rows, rowOf, viewOf, viewAt};
-ghost use Rattle.residuals.specs.Residual.{apart, residualOf, residuals, inFront, Computed, Measured};
+ghost use Rattle.solve.specs.Constants.{minus_one};
+ghost use Rattle.fit.specs.Rows.{rows, row_of, view_of, view_at};
+ghost use Rattle.residuals.specs.Residual.{apart, residual_of, residuals, in_front, Computed, Measured};
 
 use crate::NO_RESIDUAL;
 use fit::{Pose, Turn, direction_at, turn_of};
@@ -15,7 +15,7 @@ use stats::{MedianSigma, median_mad_sigma};
 
 // The distance of the plane point of a direction, (xi, eta), from that of its spot.
 fn apart(t: Turn, c: Spot, xi: f64, eta: f64) -> f64
-    ensures { (b : List (List Float)) → result ≡ apart (viewAt b t) c (Projected.At xi eta) }
+    ensures { (b : List (List Float)) → result ≡ apart (view_at b t) c (Projected.At xi eta) }
 {
     let p = predict_tanplane(c.px, c.py, t.cos_t, t.sin_t, t.ps);
     let dxi = p.xi - xi;
@@ -25,7 +25,7 @@ fn apart(t: Turn, c: Spot, xi: f64, eta: f64) -> f64
 
 // A match's residual, or the mark.
 fn residual_of(basis: [[f64; 3]; 3], t: Turn, c: Spot, d: [f32; 3]) -> f64
-    ensures { result ≡ residualOf (viewAt basis t) (rowOf c d) }
+    ensures { result ≡ residual_of (view_at basis t) (row_of c d) }
 {
     let p = tan_project_vec(d, basis, t.cut);
     let Projected::At(xi, eta) = p else {
@@ -36,7 +36,7 @@ fn residual_of(basis: [[f64; 3]; 3], t: Turn, c: Spot, d: [f32; 3]) -> f64
 
 // By how much a residual adds to the number of those in front of the plane.
 fn in_front(x: f64) -> usize
-    ensures { (result ≤ 1) × (result ≡ cond (eq x minusOne) 0 1) }
+    ensures { (result ≤ 1) × (result ≡ cond (eq x minus_one) 0 1) }
 {
     if x == NO_RESIDUAL { 0 } else { 1 }
 }
@@ -50,7 +50,7 @@ fn residuals(
     t: Turn,
     out: &mut [f64],
 ) -> usize
-    ensures { Computed (residuals (viewAt basis t)
+    ensures { Computed (residuals (view_at basis t)
         (rows spots.now directions.now matches.now))
         out.old out.new result }
 {
@@ -78,7 +78,7 @@ pub fn compute_residuals(
     cut: f64,
     out: &mut [f64],
 ) -> usize
-    ensures { Computed (residuals (viewOf pose cut)
+    ensures { Computed (residuals (view_of pose cut)
         (rows spots.now directions.now matches.now))
         out.old out.new result }
 {
@@ -90,9 +90,9 @@ pub fn compute_residuals(
 // The first n residuals, without the marks, are copied to the places after them: so many.
 fn gather(l: &mut [f64], n: usize) -> usize
     requires { 2 * n ≤ length l.old }
-    ensures { (result ≡ length (inFront (take n l.old)))
+    ensures { (result ≡ length (in_front (take n l.old)))
         × (l.new ≡
-        take n l.old ++ inFront (take n l.old) ++ drop (n + result) l.old) }
+        take n l.old ++ in_front (take n l.old) ++ drop (n + result) l.old) }
 {
     let mut k: usize = 0;
     let mut i: usize = 0;

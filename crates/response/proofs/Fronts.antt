@@ -7,22 +7,22 @@ use native.Mathlib.Omega.{arith}
 use lib.ListN.{length, take}
 use lib.Seq.{take-nil}
 use lib.Ieee.{Float}
-use Rattle.panel.specs.Spots.{spotNumbers}
+use Rattle.panel.specs.Spots.{spot_numbers}
 use Rattle.entry.specs.Arguments.{Call, Lent}
 use Rattle.wcs_refine.specs.Call.{outcome}
 use Rattle.wcs_refine.specs.Returned.{returned, called, Answers}
 use Rattle.wcs_refine.specs.declared.WcsRefineResult.{WcsRefineResult}
 use Rattle.record.specs.Header.{intake}
 use Rattle.record.specs.declared.Header.{Header}
-use Rattle.printing.specs.Text.{answerText, setFrom}
+use Rattle.printing.specs.Text.{answer_text, set_from}
 use Rattle.response.specs.Response.{asked}
 
 -- `count` things of `each` numbers take more than `most` places, or not, as the quotient tells.
-pub past-most : (each count most : ℕ) → 0 < each → most / each < count → most ≤ each * count
-past-most each count most h p = omega (arith, mul_comm each count, (div-lt_iff_lt-mul h).0 p)
+pub past_most : (each count most : ℕ) → 0 < each → most / each < count → most ≤ each * count
+past_most each count most h p = omega (arith, mul_comm each count, (div-lt_iff_lt-mul h).0 p)
 
-pub within-most : (each count most : ℕ) → 0 < each → count ≤ most / each → each * count ≤ most
-within-most each count most h p = omega (arith, mul_comm each count, (le-div_iff_mul-le h).0 p)
+pub within_most : (each count most : ℕ) → 0 < each → count ≤ most / each → each * count ≤ most
+within_most each count most h p = omega (arith, mul_comm each count, (le-div_iff_mul-le h).0 p)
 
 take_min : {A : Type 0} (k : ℕ) (l : List A) → take (min k (length l)) l ≡ take k l
 take_min zero l =
@@ -40,22 +40,22 @@ front k l {n} e =
     ap (λ (j : ℕ). take j l) (z ∙ e) ∙ take_min k l
 
 -- The call on the fronts is the one that the header asks for.
-abbrev with-header : Header → Lent → List Float → List ℕ → List Float → Call
-with-header h lent ss ms ds = called ss ms ds (h.rot0 ∷ h.rot1 ∷ h.rot2 ∷ []) h.scale h.mirror h.radius h.cut h.limit h.rounds lent
+abbrev with_header : Header → Lent → List Float → List ℕ → List Float → Call
+with_header h lent ss ms ds = called ss ms ds (h.rot0 ∷ h.rot1 ∷ h.rot2 ∷ []) h.scale h.mirror h.radius h.cut h.limit h.rounds lent
 
-pub on-fronts : (h : Header) (ss : List Float) (ms : List ℕ) (ds : List Float) (lent : Lent) {s m d : ℕ} {r : WcsRefineResult} {after : Lent}
-    → s ≡ min (spotNumbers * h.spots) (length ss) → m ≡ min (2 * h.matches) (length ms) → d ≡ min (3 * h.directions) (length ds)
-    → Answers (with-header h lent (take (s - 0) ss) (take (m - 0) ms) (take (d - 0) ds)) r after → Answers (asked (intake h ss ms ds) lent) r after
-on-fronts h ss ms ds lent {s} {m} {d} es em ed a =
+pub on_fronts : (h : Header) (ss : List Float) (ms : List ℕ) (ds : List Float) (lent : Lent) {s m d : ℕ} {r : WcsRefineResult} {after : Lent}
+    → s ≡ min (spot_numbers * h.spots) (length ss) → m ≡ min (2 * h.matches) (length ms) → d ≡ min (3 * h.directions) (length ds)
+    → Answers (with_header h lent (take (s - 0) ss) (take (m - 0) ms) (take (d - 0) ds)) r after → Answers (asked (intake h ss ms ds) lent) r after
+on_fronts h ss ms ds lent {s} {m} {d} es em ed a =
     a
-    ∙ ap (λ (x : List Float). returned (outcome (with-header h lent x (take (m - 0) ms) (take (d - 0) ds)))) (front (spotNumbers * h.spots) ss es)
-    ∙ ap (λ (x : List ℕ). returned (outcome (with-header h lent (take (spotNumbers * h.spots) ss) x (take (d - 0) ds)))) (front (2 * h.matches) ms em)
-    ∙ ap (λ (x : List Float). returned (outcome (with-header h lent (take (spotNumbers * h.spots) ss) (take (2 * h.matches) ms) x))) (front (3 * h.directions) ds ed)
+    ∙ ap (λ (x : List Float). returned (outcome (with_header h lent x (take (m - 0) ms) (take (d - 0) ds)))) (front (spot_numbers * h.spots) ss es)
+    ∙ ap (λ (x : List ℕ). returned (outcome (with_header h lent (take (spot_numbers * h.spots) ss) x (take (d - 0) ds)))) (front (2 * h.matches) ms em)
+    ∙ ap (λ (x : List Float). returned (outcome (with_header h lent (take (spot_numbers * h.spots) ss) (take (2 * h.matches) ms) x))) (front (3 * h.directions) ds ed)
 
 -- An answer printed with a front of the result list.
-pub on-front : (r : WcsRefineResult) (l before : List ℕ) {m n : ℕ} {after : List ℕ} → m ≡ min (2 * r.matches) (length l)
-    → (n ≡ min (length (answerText r (take (m - 0) l))) (length before)) × (after ≡ setFrom 0 (answerText r (take (m - 0) l)) before)
-    → (n ≡ min (length (answerText r (take (2 * r.matches) l))) (length before)) × (after ≡ setFrom 0 (answerText r (take (2 * r.matches) l)) before)
-on-front r l before {m} {n} {after} e p =
+pub on_front : (r : WcsRefineResult) (l before : List ℕ) {m n : ℕ} {after : List ℕ} → m ≡ min (2 * r.matches) (length l)
+    → (n ≡ min (length (answer_text r (take (m - 0) l))) (length before)) × (after ≡ set_from 0 (answer_text r (take (m - 0) l)) before)
+    → (n ≡ min (length (answer_text r (take (2 * r.matches) l))) (length before)) × (after ≡ set_from 0 (answer_text r (take (2 * r.matches) l)) before)
+on_front r l before {m} {n} {after} e p =
     let f = front (2 * r.matches) l e in
-    (p.0 ∙ ap (λ (x : List ℕ). min (length (answerText r x)) (length before)) f, p.1 ∙ ap (λ (x : List ℕ). setFrom 0 (answerText r x) before) f)
+    (p.0 ∙ ap (λ (x : List ℕ). min (length (answer_text r x)) (length before)) f, p.1 ∙ ap (λ (x : List ℕ). set_from 0 (answer_text r x) before) f)

@@ -6,5 +6,5 @@ use Rattle.record.specs.Header.{Intake}
 use Rattle.response.specs.Response.{Response, asked, answered}
 
 -- The call that the record asks for is made, and its answer printed.
-abbrev pub answerTo : Intake → Lent → Response
-answerTo i lent = answered i (returned (outcome (asked i lent)))
+abbrev pub answer_to : Intake → Lent → Response
+answer_to i lent = answered i (returned (outcome (asked i lent)))

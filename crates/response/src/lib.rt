@@ -3,10 +3,10 @@
 
 ghost use Rattle.std.specs.Prelude.{◌≡◌, [], ◌∷◌, ◌*◌, ◌<◌, min, length, take};
 ghost use Rattle.record.specs.Header.{intake};
-ghost use Rattle.printing.specs.Text.{answerText, setFrom};
+ghost use Rattle.printing.specs.Text.{answer_text, set_from};
 ghost use Rattle.wcs_refine.specs.Returned.{lists, called, Answers};
-ghost use Rattle.response.specs.Response.{asked, responseTo};
-ghost use Rattle.response.specs.Lawful.{answerTo};
+ghost use Rattle.response.specs.Response.{asked, response_to};
+ghost use Rattle.response.specs.Lawful.{answer_to};
 ghost use Rattle.response.specs.Printed.{Printed};
 
 mod program; // program.rt: the lists of the program `refine`
@@ -110,9 +110,9 @@ fn call(
 // The answer with the matches that it reports, which stand at the front of the result list.
 fn print_with_matches(r: WcsRefineResult, result_list: &[usize], out: &mut [u8]) -> usize
     ensures value { result
-        ≡ min (length (answerText r (take (2 * r.matches) result_list.now))) (length out.old) }
+        ≡ min (length (answer_text r (take (2 * r.matches) result_list.now))) (length out.old) }
     ensures out_after { out.new
-        ≡ setFrom 0 (answerText r (take (2 * r.matches) result_list.now)) out.old }
+        ≡ set_from 0 (answer_text r (take (2 * r.matches) result_list.now)) out.old }
 {
     let m = places(2, r.matches, result_list.len());
     print_answer(r, &result_list[0..m], out)
@@ -132,7 +132,7 @@ fn answer(
     out: &mut [u8],
 ) -> usize
     ensures { Printed
-        (answerTo (intake h spots.now matches.now directions.now)
+        (answer_to (intake h spots.now matches.now directions.now)
         (lists numbers.old floats.old distances.old
         indices.old result_list.old))
         result out.old out.new spots.now matches.now directions.now
@@ -168,7 +168,7 @@ pub fn respond(
     out: &mut [u8],
 ) -> usize
     ensures { Printed
-        (responseTo «record».now spots.old matches.old directions.old
+        (response_to «record».now spots.old matches.old directions.old
         (lists numbers.old floats.old distances.old
         indices.old result_list.old))
         result out.old out.new spots.new matches.new directions.new

@@ -1,15 +1,15 @@
 // What the program `refine` holds: its lists, and the room that it reads into.
 ghost use Rattle.std.specs.Prelude.{◌≡◌, min, length, replicate};
-ghost use Rattle.printing.specs.Text.{setFrom};
-ghost use Rattle.response.specs.Program.{programText, roomBytes};
+ghost use Rattle.printing.specs.Text.{set_from};
+ghost use Rattle.response.specs.Program.{program_text, room_bytes};
 
 use crate::respond;
 use panel::SPOT_NUMBERS;
 
 // What the program `refine` prints of a record, with the lists that it holds.
 pub fn respond_alone(record: &[u8], out: &mut [u8]) -> usize
-    ensures { (result ≡ min (length (programText «record».now)) (length out.old))
-        × (out.new ≡ setFrom 0 (programText «record».now) out.old) }
+    ensures { (result ≡ min (length (program_text «record».now)) (length out.old))
+        × (out.new ≡ set_from 0 (program_text «record».now) out.old) }
 {
     let mut spots = [0.0f64; SPOT_NUMBERS * 64];
     let mut matches = [0usize; 128];
@@ -35,7 +35,7 @@ pub fn respond_alone(record: &[u8], out: &mut [u8]) -> usize
 
 // The room that the program reads a record into: one byte more than a record may have, so that a longer input is seen to be too long.
 pub fn record_room() -> [u8; 65537]
-    ensures { result ≡ replicate roomBytes 0 }
+    ensures { result ≡ replicate room_bytes 0 }
 {
     [0u8; 65537]
 }

@@ -1,8 +1,8 @@
 -- The first digits of a root by a cubic: a test at each of the values of the 9 leading digits, 511 - y. Assumes nothing.
 use Rattle.std.proofs.Common.{ℕ, zero, suc, ◌+◌, ◌-◌, ◌*◌, ◌/◌, ◌^◌, ◌<◌, ◌≤◌, Bool, true, ◌&&◌, T, ltb, leb, sym, ◌∙◌, subst, le_trans, le_of_suc-le-suc, not-suc-le-zero, lt_of_le_of_lt, add-zero, add-suc, suc-add, zero-add, arith, ltb→lt, leb→le}
 use lib.Ieee.Fits.{and_l, and_r}
-use Rattle.rounding.specs.Root.{wholeRoot}
-use Rattle.rounding.proofs.Place.{root_ge, root-lt}
+use Rattle.rounding.specs.Root.{whole_root}
+use Rattle.rounding.proofs.Place.{root_ge, root_lt}
 
 -- the test f passes at i and the n - 1 numbers after it
 every : (ℕ → Bool) → ℕ → ℕ → Bool
@@ -50,8 +50,8 @@ module _ (y : ℕ) (h : y < 384) where
   unfolding every under
   high = ltb→lt (128 * (511 - y) + 127) ((cubic y + 1) * (cubic y + 1)) (at under tt y h)
 
-  pub close : (N : ℕ) → 128 * (511 - y) ≤ N → N ≤ 128 * (511 - y) + 127 → (wholeRoot N ≤ cubic y) × (cubic y ≤ wholeRoot N + 1)
+  pub close : (N : ℕ) → 128 * (511 - y) ≤ N → N ≤ 128 * (511 - y) + 127 → (whole_root N ≤ cubic y) × (cubic y ≤ whole_root N + 1)
   close N lo hi =
-      let a : wholeRoot N < cubic y + 1 = root-lt N (cubic y + 1) (lt_of_le_of_lt hi high) in
-      let b : cubic y - 1 ≤ wholeRoot N = root_ge N (cubic y - 1) (le_trans low lo) in
+      let a : whole_root N < cubic y + 1 = root_lt N (cubic y + 1) (lt_of_le_of_lt hi high) in
+      let b : cubic y - 1 ≤ whole_root N = root_ge N (cubic y - 1) (le_trans low lo) in
       (omega arith, omega arith)

@@ -9,8 +9,8 @@ module _ (s r B t : ℕ) (T : t ≡ r * B) (R : r ≤ 2 * s) (S : B ≤ 2 * s) (
   abbrev u : ℕ
   u = t % (2 * s)
 
-  s-pos : 0 < 2 * s
-  s-pos = omega arith
+  s_pos : 0 < 2 * s
+  s_pos = omega arith
 
   split : x * (2 * s) + u ≡ r * B
   split = div-add-mod' t (2 * s) ∙ T
@@ -18,18 +18,18 @@ module _ (s r B t : ℕ) (T : t ≡ r * B) (R : r ≤ 2 * s) (S : B ≤ 2 * s) (
   twice : 2 * s * B ≡ 2 * (s * B)
   twice = mul_assoc 2 s B
 
-  pub x-le : x ≤ B
-  x-le = le_of_suc-le-suc ((div-lt_iff_lt-mul s-pos).1 (lt_of_lt_of_le (omega (arith, mul-le-mul_right B R)) (le_of_eq (sym (suc-mul B (2 * s) ∙ ap (λ (y : ℕ). y + 2 * s) (mul_comm B (2 * s)))))))
+  pub x_le : x ≤ B
+  x_le = le_of_suc-le-suc ((div-lt_iff_lt-mul s_pos).1 (lt_of_lt_of_le (omega (arith, mul-le-mul_right B R)) (le_of_eq (sym (suc-mul B (2 * s) ∙ ap (λ (y : ℕ). y + 2 * s) (mul_comm B (2 * s)))))))
 
   -- what is left once s and x are taken, before the square of x
-  pub have-lt : u * B < 2 * (s * B)
-  have-lt =
-      let a : suc u * B ≤ 2 * s * B = mul-le-mul_right B (mod-lt t s-pos) in
+  pub have_lt : u * B < 2 * (s * B)
+  have_lt =
+      let a : suc u * B ≤ 2 * s * B = mul-le-mul_right B (mod-lt t s_pos) in
       let b : suc u * B ≡ u * B + B = suc-mul u B in
       omega (arith, twice)
 
   square_le : x * x ≤ 2 * (s * B)
-  square_le = le_trans (mul-le-mul x-le x-le) (le_trans (mul-le-mul_right B S) (le_of_eq twice))
+  square_le = le_trans (mul-le-mul x_le x_le) (le_trans (mul-le-mul_right B S) (le_of_eq twice))
 
   whole : (s * B + x) * (s * B + x) + u * B ≡ (s * s + r) * (B * B) + x * x
   whole =
@@ -46,24 +46,24 @@ module _ (s r B t : ℕ) (T : t ≡ r * B) (R : r ≤ 2 * s) (S : B ≤ 2 * s) (
       omega arith
 
   -- the square of x is in what is left
-  pub fits-square : (w y : ℕ) → w ≡ s * B + x → y ≡ u * B → x * x ≤ y → (w * w + (y - x * x) ≡ (s * s + r) * (B * B)) × (y - x * x ≤ 2 * w)
-  fits-square w y e i h =
+  pub fits_square : (w y : ℕ) → w ≡ s * B + x → y ≡ u * B → x * x ≤ y → (w * w + (y - x * x) ≡ (s * s + r) * (B * B)) × (y - x * x ≤ 2 * w)
+  fits_square w y e i h =
       let k : w * w ≡ (s * B + x) * (s * B + x) = ap (λ (y : ℕ). y * y) e in
-      (omega (arith, whole), omega (arith, have-lt))
+      (omega (arith, whole), omega (arith, have_lt))
 
   -- it is not, and the root is one less
   pub one_less : (w y : ℕ) → w ≡ s * B + x → y ≡ u * B → y < x * x
       → (0 < w) × (x * x ≤ y + 2 * w - 1) × ((w - 1) * (w - 1) + (y + 2 * w - 1 - x * x) ≡ (s * s + r) * (B * B)) × (y + 2 * w - 1 - x * x ≤ 2 * (w - 1))
   one_less w y e i h =
       let k : w * w ≡ (s * B + x) * (s * B + x) = ap (λ (y : ℕ). y * y) e in
-      let p : 0 < w = omega (arith, have-lt) in
-      let q : x * x ≤ y + 2 * w - 1 = omega (arith, square_le, have-lt, x_pos x h) in
-      let z : (w - 1) * (w - 1) + 2 * w ≡ w * w + 1 = square-pred w p in
+      let p : 0 < w = omega (arith, have_lt) in
+      let q : x * x ≤ y + 2 * w - 1 = omega (arith, square_le, have_lt, x_pos x h) in
+      let z : (w - 1) * (w - 1) + 2 * w ≡ w * w + 1 = square_pred w p in
       (p, q, omega (arith, whole), omega arith)
     where
-      square-pred : (w : ℕ) → 0 < w → (w - 1) * (w - 1) + 2 * w ≡ w * w + 1
-      square-pred zero h = elim h [ ]
-      square-pred (suc w) h =
+      square_pred : (w : ℕ) → 0 < w → (w - 1) * (w - 1) + 2 * w ≡ w * w + 1
+      square_pred zero h = elim h [ ]
+      square_pred (suc w) h =
           let a : (suc w - 1) * (suc w - 1) ≡ w * w = ap (λ (y : ℕ). y * y) (omega arith) in
           let b : suc w * suc w ≡ w * suc w + suc w = suc-mul w (suc w) in
           let c : w * suc w ≡ suc w * w = mul_comm w (suc w) in
@@ -104,12 +104,12 @@ facts s r (R, S, s32) =
     let w = joined s r in
     let y = have s r in
     let P : 0 < 2 ^ 22 = pow_pos 22 in
-    let t-is : t ≡ r * 2 ^ 22 = mod-eq_of_lt (omega arith) in
-    let x-small : x ≤ 2 ^ 22 = x-le s r (2 ^ 22) t t-is R S P in
-    let have-small : t % (2 * s) * 2 ^ 22 < 2 * (s * 2 ^ 22) = have-lt s r (2 ^ 22) t t-is R S P in
-    let w-is : w ≡ s * 2 ^ 22 + x = ap (λ (y : ℕ). y + x) (mod-eq_of_lt (omega arith)) in
-    let y-is : y ≡ t % (2 * s) * 2 ^ 22 = mod-eq_of_lt (omega arith) in
+    let t_is : t ≡ r * 2 ^ 22 = mod-eq_of_lt (omega arith) in
+    let x_small : x ≤ 2 ^ 22 = x_le s r (2 ^ 22) t t_is R S P in
+    let have_small : t % (2 * s) * 2 ^ 22 < 2 * (s * 2 ^ 22) = have_lt s r (2 ^ 22) t t_is R S P in
+    let w_is : w ≡ s * 2 ^ 22 + x = ap (λ (y : ℕ). y + x) (mod-eq_of_lt (omega arith)) in
+    let y_is : y ≡ t % (2 * s) * 2 ^ 22 = mod-eq_of_lt (omega arith) in
     record {
-      taken = λ h. fits-square s r (2 ^ 22) t t-is R S P w y w-is y-is h;
-      left = λ h. one_less s r (2 ^ 22) t t-is R S P w y w-is y-is h;
+      taken = λ h. fits_square s r (2 ^ 22) t t_is R S P w y w_is y_is h;
+      left = λ h. one_less s r (2 ^ 22) t t_is R S P w y w_is y_is h;
     }

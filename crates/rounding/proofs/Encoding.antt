@@ -8,7 +8,7 @@ use lib.Ieee.Fits.{two, down_pos}
 use lib.Ieee.Exact.{HasValue, odd_sign, units_val}
 use lib.Ieee.Scale.{overflow}
 use lib.Ieee.Bits.{is_true, is_false, cond_no}
-use Rattle.rounding.specs.Pattern.{digitsOf}
+use Rattle.rounding.specs.Pattern.{digits_of}
 use Rattle.rounding.proofs.Place.{Full, dropped}
 use Rattle.rounding.proofs.Half.{half_pow}
 
@@ -17,7 +17,7 @@ of_bits_is : (f : Format) (b : ℕ) → of_bits f b ≡ of_fields f (leb (top f)
 unfolding of_bits
 of_bits_is f b = refl
 
-fields_value : (f : Format) (s : Bool) (x t : ℕ) → x < ones f → HasValue (of_fields f s x t) s (digitsOf (hid f) x t * 2 ^ (x - 1)) (2 ^ low f)
+fields_value : (f : Format) (s : Bool) (x t : ℕ) → x < ones f → HasValue (of_fields f s x t) s (digits_of (hid f) x t * 2 ^ (x - 1)) (2 ^ low f)
 unfolding of_fields
 fields_value f s zero t h = odd_sign (prec f) s t 0 (low f)
 fields_value f s (suc x) t h =
@@ -27,28 +27,28 @@ fields_value f s (suc x) t h =
     back : (x : ℕ) → x ≡ suc x - 1
     back x = omega arith
 
-pub value_of : (f : Format) (b : ℕ) → b % top f / hid f < ones f → HasValue (of_bits f b) (leb (top f) b) (digitsOf (hid f) (b % top f / hid f) (b % hid f) * 2 ^ (b % top f / hid f - 1)) (2 ^ low f)
-value_of f b h = subst (λ (v : Float). HasValue v (leb (top f) b) (digitsOf (hid f) (b % top f / hid f) (b % hid f) * 2 ^ (b % top f / hid f - 1)) (2 ^ low f)) (sym (of_bits_is f b)) (fields_value f (leb (top f) b) (b % top f / hid f) (b % hid f) h)
+pub value_of : (f : Format) (b : ℕ) → b % top f / hid f < ones f → HasValue (of_bits f b) (leb (top f) b) (digits_of (hid f) (b % top f / hid f) (b % hid f) * 2 ^ (b % top f / hid f - 1)) (2 ^ low f)
+value_of f b h = subst (λ (v : Float). HasValue v (leb (top f) b) (digits_of (hid f) (b % top f / hid f) (b % hid f) * 2 ^ (b % top f / hid f - 1)) (2 ^ low f)) (sym (of_bits_is f b)) (fields_value f (leb (top f) b) (b % top f / hid f) (b % hid f) h)
 
 -- with the sign's bit clear
-pub positive-value : (f : Format) (b : ℕ) → b < ones f * hid f → HasValue (of_bits f b) false (digitsOf (hid f) (b / hid f) (b % hid f) * 2 ^ (b / hid f - 1)) (2 ^ low f)
-positive-value f b h =
+pub positive_value : (f : Format) (b : ℕ) → b < ones f * hid f → HasValue (of_bits f b) false (digits_of (hid f) (b / hid f) (b % hid f) * 2 ^ (b / hid f - 1)) (2 ^ low f)
+positive_value f b h =
     let small : b < top f = lt_of_lt_of_le h (le_trans (mul-le-mul_right (hid f) (le_of_lt (lt-suc_self (ones f)))) (le_of_eq (mul_comm (suc (ones f)) (hid f)))) in
     let m : b % top f ≡ b = mod-eq_of_lt small in
-    subst (λ (s : Bool). HasValue (of_bits f b) s (digitsOf (hid f) (b / hid f) (b % hid f) * 2 ^ (b / hid f - 1)) (2 ^ low f)) (is_false (leb (top f) b) (lt→nleb (top f) b small))
-    (subst (λ (y : ℕ). HasValue (of_bits f b) (leb (top f) b) (digitsOf (hid f) (y / hid f) (b % hid f) * 2 ^ (y / hid f - 1)) (2 ^ low f)) m
+    subst (λ (s : Bool). HasValue (of_bits f b) s (digits_of (hid f) (b / hid f) (b % hid f) * 2 ^ (b / hid f - 1)) (2 ^ low f)) (is_false (leb (top f) b) (lt→nleb (top f) b small))
+    (subst (λ (y : ℕ). HasValue (of_bits f b) (leb (top f) b) (digits_of (hid f) (y / hid f) (b % hid f) * 2 ^ (y / hid f - 1)) (2 ^ low f)) m
     (value_of f b (subst (λ (y : ℕ). y / hid f < ones f) (sym m) ((div-lt_iff_lt-mul (pow_pos (prec f - 1))).1 h))))
 
 -- with the sign's bit s
-pub signed-value : (f : Format) (s : Bool) (a : ℕ) → a < ones f * hid f → HasValue (of_bits f (cond s (top f) 0 + a)) s (digitsOf (hid f) (a / hid f) (a % hid f) * 2 ^ (a / hid f - 1)) (2 ^ low f)
-signed-value f false a h = subst (λ (b : ℕ). HasValue (of_bits f b) false (digitsOf (hid f) (a / hid f) (a % hid f) * 2 ^ (a / hid f - 1)) (2 ^ low f)) (sym (zero-add a)) (positive-value f a h)
-signed-value f true a h =
+pub signed_value : (f : Format) (s : Bool) (a : ℕ) → a < ones f * hid f → HasValue (of_bits f (cond s (top f) 0 + a)) s (digits_of (hid f) (a / hid f) (a % hid f) * 2 ^ (a / hid f - 1)) (2 ^ low f)
+signed_value f false a h = subst (λ (b : ℕ). HasValue (of_bits f b) false (digits_of (hid f) (a / hid f) (a % hid f) * 2 ^ (a / hid f - 1)) (2 ^ low f)) (sym (zero-add a)) (positive_value f a h)
+signed_value f true a h =
     let small : a < top f = lt_of_lt_of_le h (le_trans (mul-le-mul_right (hid f) (le_of_lt (lt-suc_self (ones f)))) (le_of_eq (mul_comm (suc (ones f)) (hid f)))) in
     let m : (top f + a) % top f ≡ a = add-mod_left (top f) a ∙ mod-eq_of_lt small in
     let d : (top f + a) % hid f ≡ a % hid f = mul-add-mod_self_left (hid f) (suc (ones f)) a in
-    subst (λ (s : Bool). HasValue (of_bits f (top f + a)) s (digitsOf (hid f) (a / hid f) (a % hid f) * 2 ^ (a / hid f - 1)) (2 ^ low f)) (is_true (leb (top f) (top f + a)) (le→leb (top f) (top f + a) (le-add_right (top f) a)))
-    (subst (λ (t : ℕ). HasValue (of_bits f (top f + a)) (leb (top f) (top f + a)) (digitsOf (hid f) (a / hid f) t * 2 ^ (a / hid f - 1)) (2 ^ low f)) d
-    (subst (λ (y : ℕ). HasValue (of_bits f (top f + a)) (leb (top f) (top f + a)) (digitsOf (hid f) (y / hid f) ((top f + a) % hid f) * 2 ^ (y / hid f - 1)) (2 ^ low f)) m
+    subst (λ (s : Bool). HasValue (of_bits f (top f + a)) s (digits_of (hid f) (a / hid f) (a % hid f) * 2 ^ (a / hid f - 1)) (2 ^ low f)) (is_true (leb (top f) (top f + a)) (le→leb (top f) (top f + a) (le-add_right (top f) a)))
+    (subst (λ (t : ℕ). HasValue (of_bits f (top f + a)) (leb (top f) (top f + a)) (digits_of (hid f) (a / hid f) t * 2 ^ (a / hid f - 1)) (2 ^ low f)) d
+    (subst (λ (y : ℕ). HasValue (of_bits f (top f + a)) (leb (top f) (top f + a)) (digits_of (hid f) (y / hid f) ((top f + a) % hid f) * 2 ^ (y / hid f - 1)) (2 ^ low f)) m
     (value_of f (top f + a) (subst (λ (y : ℕ). y / hid f < ones f) (sym m) ((div-lt_iff_lt-mul (pow_pos (prec f - 1))).1 h)))))
 
 -- ---- the pattern of q * 2 ^ k units

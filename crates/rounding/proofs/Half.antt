@@ -46,8 +46,8 @@ module _ (n b h : ℕ) (e : b ≡ 2 * h) (H : 0 < h) where
   is : q * b + r ≡ n
   is = div-add-mod' n b
 
-  r-lt : r < b
-  r-lt = mod-lt n (omega arith)
+  r_lt : r < b
+  r_lt = mod-lt n (omega arith)
 
   sized : (o : Ordering) → Cmp o (r * 2) b → (n + (h - 1) + q % 2) / b ≡ nearest q o
   sized Ordering.lt c = quotient q b (r + (h - 1) + q % 2) (n + (h - 1) + q % 2) (omega (arith, is)) (omega arith)
@@ -56,10 +56,10 @@ module _ (n b h : ℕ) (e : b ≡ 2 * h) (H : 0 < h) where
       go : (q % 2 ≡ 0) ⊎ (q % 2 ≡ 1) → (n + (h - 1) + q % 2) / b ≡ q + q % 2
       go (inl z) = quotient q b (b - 1) (n + (h - 1) + q % 2) (omega (arith, is)) (omega arith) ∙ omega arith
       go (inr z) = quotient (suc q) b 0 (n + (h - 1) + q % 2) (omega (arith, is, suc-mul q b)) (omega arith) ∙ omega arith
-  sized Ordering.gt c = quotient (suc q) b (r + (h - 1) + q % 2 - b) (n + (h - 1) + q % 2) (omega (arith, is, suc-mul q b)) (omega (arith, r-lt))
+  sized Ordering.gt c = quotient (suc q) b (r + (h - 1) + q % 2 - b) (n + (h - 1) + q % 2) (omega (arith, is, suc-mul q b)) (omega (arith, r_lt))
 
-  pub by-half : (n + (h - 1) + n / b % 2) / b ≡ closest n b
-  by-half = sized (compare (r * 2) b) (cmp (r * 2) b)
+  pub by_half : (n + (h - 1) + n / b % 2) / b ≡ closest n b
+  by_half = sized (compare (r * 2) b) (cmp (r * 2) b)
 
 -- ---- as the machine has it, with b = 2 ^ d
 pub twice_half : (d : ℕ) → 0 < d → 2 ^ d ≡ 2 * 2 ^ (d - 1)
@@ -80,5 +80,5 @@ half_is d h = shl_exact 1 (d - 1) 64 (omega arith) (omega arith) ∙ omega arith
 pub bit_is : (h : ℕ) → h < 53 → 1 * 2 ^ h % 2 ^ 64 ≡ 2 ^ h
 bit_is h k = shl_exact 1 h 64 (omega arith) (omega arith) ∙ omega arith
 
-pub below-bit : (b h : ℕ) → h < 53 → bit_and b (1 * 2 ^ h % 2 ^ 64 - 1) ≡ b % 2 ^ h
-below-bit b h k = ap (λ (x : ℕ). bit_and b (x - 1)) (bit_is h k) ∙ and_mask b h
+pub below_bit : (b h : ℕ) → h < 53 → bit_and b (1 * 2 ^ h % 2 ^ 64 - 1) ≡ b % 2 ^ h
+below_bit b h k = ap (λ (x : ℕ). bit_and b (x - 1)) (bit_is h k) ∙ and_mask b h

@@ -13,10 +13,10 @@ use lib.Ieee.Exact.{HasValue}
 use lib.Ieee.Scale.{overflow}
 use Rattle.rounding.specs.Methods.{negative}
 use Rattle.rounding.specs.Rounded.{Holds}
-use Rattle.rounding.proofs.Place.{Full, compare-scaled}
+use Rattle.rounding.proofs.Place.{Full, compare_scaled}
 use Rattle.rounding.proofs.Encoding.{bits_of}
-use Rattle.rounding.proofs.Rounding.{full-of}
-use Rattle.rounding.proofs.Values.{value-held, leading}
+use Rattle.rounding.proofs.Rounding.{full_of}
+use Rattle.rounding.proofs.Values.{value_held, leading}
 use Rattle.rounding.proofs.Half.{half_pow}
 
 -- ---- the size: x has the sign s and is a units
@@ -25,19 +25,19 @@ Sized f nan s a = ⊥
 Sized f (inf t) s a = (t ≡ s) × (a ≡ overflow f)
 Sized f (fin t m e) s a = HasValue (fin t m e) s a (2 ^ low f) × (a < overflow f)
 
-overflow-held : (f : Format) → Holds (prec f) (overflow f)
-overflow-held f = let p : 0 < prec f = omega (arith, two f) in record { q = 1; k = low f + suc (emax f); few = pow-lt p; is = sym (one-mul (overflow f)) }
+overflow_held : (f : Format) → Holds (prec f) (overflow f)
+overflow_held f = let p : 0 < prec f = omega (arith, two f) in record { q = 1; k = low f + suc (emax f); few = pow-lt p; is = sym (one-mul (overflow f)) }
 
 pub sized : (f : Format) (x : Float) → T (fits f x) → T (not (is_nan x)) → (a : ℕ) × Holds (prec f) a × Sized f x (negative x) a
 unfolding is_nan negative
 sized f nan F n = absurd n
-sized f (inf s) F n = (overflow f, overflow-held f, (refl, refl))
-sized f (fin s m e) F n = let v = value-held f s m e F in (v.0, v.1, (v.3, v.2))
+sized f (inf s) F n = (overflow f, overflow_held f, (refl, refl))
+sized f (fin s m e) F n = let v = value_held f s m e F in (v.0, v.1, (v.3, v.2))
 
-pub sized-le : (f : Format) (x : Float) (s : Bool) (a : ℕ) → Sized f x s a → a ≤ overflow f
-sized-le f nan s a z = absurd z
-sized-le f (inf t) s a z = le_of_eq z.1
-sized-le f (fin t m e) s a z = le_of_lt z.1
+pub sized_le : (f : Format) (x : Float) (s : Bool) (a : ℕ) → Sized f x s a → a ≤ overflow f
+sized_le f nan s a z = absurd z
+sized_le f (inf t) s a z = le_of_eq z.1
+sized_le f (fin t m e) s a z = le_of_lt z.1
 
 -- ---- the pattern of a units, without the sign
 abbrev pub pattern : ℕ → ℕ → ℕ
@@ -56,7 +56,7 @@ pattern_lt p a b P A B h = go (eq-or-lt_of_le fewer)
         let y : b / 2 ^ k * 2 ^ k ≡ b = leading p b P B in
         let l : a / 2 ^ k < b / 2 ^ k = lt_of_mul-lt-mul_right (2 ^ k) (lt_of_le_of_lt (le_of_eq x) (lt_of_lt_of_le h (le_of_eq (sym y)))) in
         subst (λ (j : ℕ). j * 2 ^ (p - 1) + a / 2 ^ j < k * 2 ^ (p - 1) + b / 2 ^ k) (sym e) (omega arith)
-    go (inr l) = more (full-of p b P)
+    go (inr l) = more (full_of p b P)
       where
         more : Full p (b / 2 ^ (size b - p)) (size b - p) → pattern p a < pattern p b
         more (inl z) = absurd (omega arith)
@@ -65,28 +65,28 @@ pattern_lt p a b P A B h = go (eq-or-lt_of_le fewer)
             let v : suc (size a - p) * 2 ^ (p - 1) ≡ (size a - p) * 2 ^ (p - 1) + 2 ^ (p - 1) = suc-mul (size a - p) (2 ^ (p - 1)) in
             omega (arith, kept-lt p a, half_pow p P)
 
-pattern-top : (f : Format) → pattern (prec f) (overflow f) ≡ ones f * hid f
+pattern_top : (f : Format) → pattern (prec f) (overflow f) ≡ ones f * hid f
 unfolding size
-pattern-top binary32 = refl
-pattern-top binary64 = refl
+pattern_top binary32 = refl
+pattern_top binary64 = refl
 
-pub sized-bits : (f : Format) (x : Float) (s : Bool) (a : ℕ) → Sized f x s a → to_bits f x ≡ cond s (top f) 0 + pattern (prec f) a
+pub sized_bits : (f : Format) (x : Float) (s : Bool) (a : ℕ) → Sized f x s a → to_bits f x ≡ cond s (top f) 0 + pattern (prec f) a
 unfolding to_bits
-sized-bits f nan s a z = absurd z
-sized-bits f (inf t) s a z = ap (λ (y : Bool). cond y (top f) 0 + ones f * hid f) z.0 ∙ ap (λ (n : ℕ). cond s (top f) 0 + n) (sym (ap (pattern (prec f)) z.1 ∙ pattern-top f))
-sized-bits f (fin t m e) s a z = bits_of f (fin t m e) s a z.0 ∙ add_assoc (cond s (top f) 0) ((size a - prec f) * hid f) (a / 2 ^ (size a - prec f))
+sized_bits f nan s a z = absurd z
+sized_bits f (inf t) s a z = ap (λ (y : Bool). cond y (top f) 0 + ones f * hid f) z.0 ∙ ap (λ (n : ℕ). cond s (top f) 0 + n) (sym (ap (pattern (prec f)) z.1 ∙ pattern_top f))
+sized_bits f (fin t m e) s a z = bits_of f (fin t m e) s a z.0 ∙ add_assoc (cond s (top f) 0) ((size a - prec f) * hid f) (a / 2 ^ (size a - prec f))
 
 -- an infinity's is the largest
-pub pattern-le : (f : Format) (a : ℕ) → Holds (prec f) a → a ≤ overflow f → pattern (prec f) a ≤ ones f * hid f
-pattern-le f a H h = go (eq-or-lt_of_le h)
+pub pattern_le : (f : Format) (a : ℕ) → Holds (prec f) a → a ≤ overflow f → pattern (prec f) a ≤ ones f * hid f
+pattern_le f a H h = go (eq-or-lt_of_le h)
   where
     go : (a ≡ overflow f) ⊎ (a < overflow f) → pattern (prec f) a ≤ ones f * hid f
-    go (inl e) = le_of_eq (ap (pattern (prec f)) e ∙ pattern-top f)
-    go (inr l) = le_trans (le_of_lt (pattern_lt (prec f) a (overflow f) (two f) H (overflow-held f) l)) (le_of_eq (pattern-top f))
+    go (inl e) = le_of_eq (ap (pattern (prec f)) e ∙ pattern_top f)
+    go (inr l) = le_trans (le_of_lt (pattern_lt (prec f) a (overflow f) (two f) H (overflow_held f) l)) (le_of_eq (pattern_top f))
 
 -- ---- comparisons
-ltb-is : (a b : ℕ) → ltb a b ≡ not (leb b a)
-ltb-is a b = go (leb b a) refl
+ltb_is : (a b : ℕ) → ltb a b ≡ not (leb b a)
+ltb_is a b = go (leb b a) refl
   where
     go : (t : Bool) → leb b a ≡ t → ltb a b ≡ not t
     go true e = le-ltb a b (leb-true b a e)
@@ -95,22 +95,22 @@ ltb-is a b = go (leb b a) refl
 -- numbers that are in a fixed ratio to others compare as those do
 module _ (L K : ℕ) (l : 0 < L) (k : 0 < K) where
   same : (x y a b : ℕ) → x * L ≡ a * K → y * L ≡ b * K → compare x y ≡ compare a b
-  same x y a b p q = sym (compare-scaled x y L l) ∙ ap (λ (n : ℕ). compare n (y * L)) p ∙ ap (λ (n : ℕ). compare (a * K) n) q ∙ compare-scaled a b K k
+  same x y a b p q = sym (compare_scaled x y L l) ∙ ap (λ (n : ℕ). compare n (y * L)) p ∙ ap (λ (n : ℕ). compare (a * K) n) q ∙ compare_scaled a b K k
 
   none : 0 * L ≡ 0 * K
   none = zero-mul L ∙ sym (zero-mul K)
 
-  ltb-same : (x y a b : ℕ) → x * L ≡ a * K → y * L ≡ b * K → ltb x y ≡ ltb a b
-  ltb-same x y a b p q = ltb-is x y ∙ ap (λ (o : Ordering). not (is_le o)) (same y x b a q p) ∙ sym (ltb-is a b)
+  ltb_same : (x y a b : ℕ) → x * L ≡ a * K → y * L ≡ b * K → ltb x y ≡ ltb a b
+  ltb_same x y a b p q = ltb_is x y ∙ ap (λ (o : Ordering). not (is_le o)) (same y x b a q p) ∙ sym (ltb_is a b)
 
-  below-same : (s t : Bool) (x y a b : ℕ) → x * L ≡ a * K → y * L ≡ b * K → below s x t y ≡ below s a t b
-  below-same false false x y a b p q = ltb-same x y a b p q
-  below-same false true x y a b p q = refl
-  below-same true false x y a b p q = ltb-same 0 (x + y) 0 (a + b) none (add-mul x y L ∙ ap (λ (n : ℕ). n + y * L) p ∙ ap (λ (n : ℕ). a * K + n) q ∙ sym (add-mul a b K))
-  below-same true true x y a b p q = ltb-same y x b a q p
+  below_same : (s t : Bool) (x y a b : ℕ) → x * L ≡ a * K → y * L ≡ b * K → below s x t y ≡ below s a t b
+  below_same false false x y a b p q = ltb_same x y a b p q
+  below_same false true x y a b p q = refl
+  below_same true false x y a b p q = ltb_same 0 (x + y) 0 (a + b) none (add-mul x y L ∙ ap (λ (n : ℕ). n + y * L) p ∙ ap (λ (n : ℕ). a * K + n) q ∙ sym (add-mul a b K))
+  below_same true true x y a b p q = ltb_same y x b a q p
 
-  level-same : (s t : Bool) (x y a b : ℕ) → x * L ≡ a * K → y * L ≡ b * K → level s x t y ≡ level s a t b
-  level-same s t x y a b p q = ap (λ (o : Ordering). compare_is_eq o && (beq s t || eqb x 0)) (same x y a b p q) ∙ ap (λ (o : Ordering). eqb a b && (beq s t || compare_is_eq o)) (same x 0 a 0 p none)
+  level_same : (s t : Bool) (x y a b : ℕ) → x * L ≡ a * K → y * L ≡ b * K → level s x t y ≡ level s a t b
+  level_same s t x y a b p q = ap (λ (o : Ordering). compare_is_eq o && (beq s t || eqb x 0)) (same x y a b p q) ∙ ap (λ (o : Ordering). eqb a b && (beq s t || compare_is_eq o)) (same x 0 a 0 p none)
 
 -- an infinity is past every size
 module _ (O : ℕ) (P : 0 < O) where
@@ -120,60 +120,60 @@ module _ (O : ℕ) (P : 0 < O) where
   below_both true false = sym (lt-ltb 0 (O + O) (omega arith))
   below_both true true = sym (le-ltb O O (le_refl O))
 
-  below-first : (s t : Bool) (b : ℕ) → b < O → s ≡ below s O t b
-  below-first false false b h = sym (le-ltb O b (le_of_lt h))
-  below-first false true b h = refl
-  below-first true false b h = sym (lt-ltb 0 (O + b) (omega arith))
-  below-first true true b h = sym (lt-ltb b O h)
+  below_first : (s t : Bool) (b : ℕ) → b < O → s ≡ below s O t b
+  below_first false false b h = sym (le-ltb O b (le_of_lt h))
+  below_first false true b h = refl
+  below_first true false b h = sym (lt-ltb 0 (O + b) (omega arith))
+  below_first true true b h = sym (lt-ltb b O h)
 
-  below-second : (s t : Bool) (a : ℕ) → a < O → not t ≡ below s a t O
-  below-second false false a h = sym (lt-ltb a O h)
-  below-second false true a h = refl
-  below-second true false a h = sym (lt-ltb 0 (a + O) (omega arith))
-  below-second true true a h = sym (le-ltb O a (le_of_lt h))
+  below_second : (s t : Bool) (a : ℕ) → a < O → not t ≡ below s a t O
+  below_second false false a h = sym (lt-ltb a O h)
+  below_second false true a h = refl
+  below_second true false a h = sym (lt-ltb 0 (a + O) (omega arith))
+  below_second true true a h = sym (le-ltb O a (le_of_lt h))
 
-  level-both : (s t : Bool) → beq s t ≡ level s O t O
-  level-both s t = rw (eq-eqb O O refl, ne_eqb O 0 (λ e. omega arith)) (plain (beq s t))
+  level_both : (s t : Bool) → beq s t ≡ level s O t O
+  level_both s t = rw (eq-eqb O O refl, ne_eqb O 0 (λ e. omega arith)) (plain (beq s t))
     where
       plain : (u : Bool) → u ≡ true && (u || false)
       plain true = refl
       plain false = refl
 
-  level-first : (s t : Bool) (b : ℕ) → b < O → false ≡ level s O t b
-  level-first s t b h = rw (ne_eqb O b (λ e. omega arith))
+  level_first : (s t : Bool) (b : ℕ) → b < O → false ≡ level s O t b
+  level_first s t b h = rw (ne_eqb O b (λ e. omega arith))
 
-  level-second : (s t : Bool) (a : ℕ) → a < O → false ≡ level s a t O
-  level-second s t a h = rw (ne_eqb a O (λ e. omega arith))
+  level_second : (s t : Bool) (a : ℕ) → a < O → false ≡ level s a t O
+  level_second s t a h = rw (ne_eqb a O (λ e. omega arith))
 
 -- two finite numbers, over the product of their denominators
 cross : (x a L de dd : ℕ) → x * L ≡ a * de → x * dd * L ≡ a * (de * dd)
 cross x a L de dd p = mul_right_comm x dd L ∙ ap (λ (n : ℕ). n * dd) p ∙ mul_assoc a de dd
 
-pub sized-lt : (f : Format) (x y : Float) (s t : Bool) (a b : ℕ) → Sized f x s a → Sized f y t b → lt x y ≡ below s a t b
+pub sized_lt : (f : Format) (x y : Float) (s t : Bool) (a b : ℕ) → Sized f x s a → Sized f y t b → lt x y ≡ below s a t b
 unfolding lt
-sized-lt f nan y s t a b z w = absurd z
-sized-lt f (inf i) nan s t a b z w = absurd w
-sized-lt f (inf i) (inf j) s t a b z w = rw (z.0, w.0, z.1, w.1) (below_both (overflow f) (pow_pos (low f + suc (emax f))) s t)
-sized-lt f (inf i) (fin j n d) s t a b z w = rw (z.0, z.1) (below-first (overflow f) (pow_pos (low f + suc (emax f))) s t b w.1)
-sized-lt f (fin i m e) nan s t a b z w = absurd w
-sized-lt f (fin i m e) (inf j) s t a b z w = rw (w.0, w.1) (below-second (overflow f) (pow_pos (low f + suc (emax f))) s t a z.1)
-sized-lt f (fin i m e) (fin j n d) s t a b z w =
+sized_lt f nan y s t a b z w = absurd z
+sized_lt f (inf i) nan s t a b z w = absurd w
+sized_lt f (inf i) (inf j) s t a b z w = rw (z.0, w.0, z.1, w.1) (below_both (overflow f) (pow_pos (low f + suc (emax f))) s t)
+sized_lt f (inf i) (fin j n d) s t a b z w = rw (z.0, z.1) (below_first (overflow f) (pow_pos (low f + suc (emax f))) s t b w.1)
+sized_lt f (fin i m e) nan s t a b z w = absurd w
+sized_lt f (fin i m e) (inf j) s t a b z w = rw (w.0, w.1) (below_second (overflow f) (pow_pos (low f + suc (emax f))) s t a z.1)
+sized_lt f (fin i m e) (fin j n d) s t a b z w =
     rw (z.0.0, w.0.0)
-    (below-same (2 ^ low f) (down e * down d) (pow_pos (low f)) (mul-pos (down_pos e) (down_pos d)) s t (m * up e * down d) (n * up d * down e) a b
+    (below_same (2 ^ low f) (down e * down d) (pow_pos (low f)) (mul-pos (down_pos e) (down_pos d)) s t (m * up e * down d) (n * up d * down e) a b
     (cross (m * up e) a (2 ^ low f) (down e) (down d) z.0.1)
     (cross (n * up d) b (2 ^ low f) (down d) (down e) w.0.1 ∙ ap (λ (k : ℕ). b * k) (mul_comm (down d) (down e))))
 
-pub sized-eq : (f : Format) (x y : Float) (s t : Bool) (a b : ℕ) → Sized f x s a → Sized f y t b → eq x y ≡ level s a t b
+pub sized_eq : (f : Format) (x y : Float) (s t : Bool) (a b : ℕ) → Sized f x s a → Sized f y t b → eq x y ≡ level s a t b
 unfolding eq
-sized-eq f nan y s t a b z w = absurd z
-sized-eq f (inf i) nan s t a b z w = absurd w
-sized-eq f (inf i) (inf j) s t a b z w = rw (z.0, w.0, z.1, w.1) (level-both (overflow f) (pow_pos (low f + suc (emax f))) s t)
-sized-eq f (inf i) (fin j n d) s t a b z w = rw z.1 (level-first (overflow f) (pow_pos (low f + suc (emax f))) s t b w.1)
-sized-eq f (fin i m e) nan s t a b z w = absurd w
-sized-eq f (fin i m e) (inf j) s t a b z w = rw w.1 (level-second (overflow f) (pow_pos (low f + suc (emax f))) s t a z.1)
-sized-eq f (fin i m e) (fin j n d) s t a b z w =
+sized_eq f nan y s t a b z w = absurd z
+sized_eq f (inf i) nan s t a b z w = absurd w
+sized_eq f (inf i) (inf j) s t a b z w = rw (z.0, w.0, z.1, w.1) (level_both (overflow f) (pow_pos (low f + suc (emax f))) s t)
+sized_eq f (inf i) (fin j n d) s t a b z w = rw z.1 (level_first (overflow f) (pow_pos (low f + suc (emax f))) s t b w.1)
+sized_eq f (fin i m e) nan s t a b z w = absurd w
+sized_eq f (fin i m e) (inf j) s t a b z w = rw w.1 (level_second (overflow f) (pow_pos (low f + suc (emax f))) s t a z.1)
+sized_eq f (fin i m e) (fin j n d) s t a b z w =
     rw (z.0.0, w.0.0)
-    (level-same (2 ^ low f) (down e * down d) (pow_pos (low f)) (mul-pos (down_pos e) (down_pos d)) s t (m * up e * down d) (n * up d * down e) a b
+    (level_same (2 ^ low f) (down e * down d) (pow_pos (low f)) (mul-pos (down_pos e) (down_pos d)) s t (m * up e * down d) (n * up d * down e) a b
     (cross (m * up e) a (2 ^ low f) (down e) (down d) z.0.1)
     (cross (n * up d) b (2 ^ low f) (down d) (down e) w.0.1 ∙ ap (λ (k : ℕ). b * k) (mul_comm (down d) (down e))))
 
@@ -181,8 +181,8 @@ sized-eq f (fin i m e) (fin j n d) s t a b z w =
 pub sign_bit : (f : Format) (x : Float) → T (fits f x) → T (not (is_nan x)) → leb (top f) (to_bits f x) ≡ negative x
 sign_bit f x F n =
     let z = sized f x F n in
-    ap (leb (top f)) (sized-bits f x (negative x) z.0 z.2)
-    ∙ go (negative x) (pattern (prec f) z.0) (lt_of_le_of_lt (pattern-le f z.0 z.1 (sized-le f x (negative x) z.0 z.2)) (under f))
+    ap (leb (top f)) (sized_bits f x (negative x) z.0 z.2)
+    ∙ go (negative x) (pattern (prec f) z.0) (lt_of_le_of_lt (pattern_le f z.0 z.1 (sized_le f x (negative x) z.0 z.2)) (under f))
   where
     go : (s : Bool) (n : ℕ) → n < top f → leb (top f) (cond s (top f) 0 + n) ≡ s
     go true n h = le-leb (top f) (top f + n) (le-add_right (top f) n)

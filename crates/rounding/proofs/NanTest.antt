@@ -12,8 +12,8 @@ differs (fin true m e) = rw (eq-eqb _ _ refl)
 differs (fin false m e) = rw (eq-eqb _ _ refl)
 
 -- the test passed: x is the NaN
-pub at-nan : (x : Float) → ne x x ≡ true → x ≡ nan
-at-nan x h = differs_from_itself x (subst T (sym h) tt)
+pub at_nan : (x : Float) → ne x x ≡ true → x ≡ nan
+at_nan x h = differs_from_itself x (subst T (sym h) tt)
 
 -- it failed: x is a number or an infinity
 pub no_nan : (x : Float) → ne x x ≡ false → T (not (is_nan x))

@@ -7,10 +7,10 @@ use lib.Ieee.{Float, nan, inf, fin, Format, binary32, binary64, prec, emax, low,
 use lib.Ieee.Digits.{size-le}
 use lib.Ieee.Fits.{two, up_pos, down_pos, odd-fits, nearest-le, kept-lt, inf-fits, and_l, and_r}
 use lib.Ieee.Bits.{of_bits-to_bits, nan_bits_is, is_true, to_bits-lt}
-use Rattle.rounding.specs.Root.{wholeRoot, place, rootOf, root}
+use Rattle.rounding.specs.Root.{whole_root, place, root_of, root}
 use Rattle.rounding.proofs.RootBits.{sizes}
 use Rattle.rounding.proofs.Half.{half_pow}
-use Rattle.rounding.proofs.NanTest.{at-nan, no_nan}
+use Rattle.rounding.proofs.NanTest.{at_nan, no_nan}
 
 -- ---- a test's answer as a fact
 yes : {b : Bool} → b ≡ true → T b
@@ -22,14 +22,14 @@ unfolding of_bits
 zero_is binary32 = refl
 zero_is binary64 = refl
 
-pub made-nan : (f : Format) → div f (of_bits f 0) (of_bits f 0) ≡ nan
+pub made_nan : (f : Format) → div f (of_bits f 0) (of_bits f 0) ≡ nan
 unfolding div
-made-nan f = ap (λ (x : Float). div f x x) (zero_is f)
+made_nan f = ap (λ (x : Float). div f x x) (zero_is f)
 
 -- ---- a NaN
-pub root-nan : (f : Format) (x : Float) → ne x x ≡ true → x ≡ root f x
+pub root_nan : (f : Format) (x : Float) → ne x x ≡ true → x ≡ root f x
 unfolding root
-root-nan f x h = let e = at-nan x h in e ∙ sym (ap (root f) e)
+root_nan f x h = let e = at_nan x h in e ∙ sym (ap (root f) e)
 
 -- ---- a zero, and a number below zero
 clash : (m : ℕ) (e : ℤ) (d : ℕ) → T (eqb (suc m * up e * 1) (0 * 1 * d)) → ⊥
@@ -38,9 +38,9 @@ clash m e d t =
     let p : 0 < suc m * up e = mul-pos (zero-lt-suc m) (up_pos e) in
     omega arith
 
-pub root-zero : (f : Format) (x : Float) → eq x (of_bits f 0) ≡ true → x ≡ root f x
+pub root_zero : (f : Format) (x : Float) → eq x (of_bits f 0) ≡ true → x ≡ root f x
 unfolding eq root
-root-zero f x h = go x (subst (λ (z : Float). T (eq x z)) (zero_is f) (yes h))
+root_zero f x h = go x (subst (λ (z : Float). T (eq x z)) (zero_is f) (yes h))
   where
     go : (x : Float) → T (eq x (fin false 0 (pos 0))) → x ≡ root f x
     go nan t = absurd t
@@ -50,7 +50,7 @@ root-zero f x h = go x (subst (λ (z : Float). T (eq x z)) (zero_is f) (yes h))
 
 pub root_below : (f : Format) (x : Float) → lt x (of_bits f 0) ≡ true → div f (of_bits f 0) (of_bits f 0) ≡ root f x
 unfolding lt root
-root_below f x h = made-nan f ∙ go x (subst (λ (z : Float). T (lt x z)) (zero_is f) (yes h))
+root_below f x h = made_nan f ∙ go x (subst (λ (z : Float). T (lt x z)) (zero_is f) (yes h))
   where
     go : (x : Float) → T (lt x (fin false 0 (pos 0))) → nan ≡ root f x
     go nan t = absurd t
@@ -61,8 +61,8 @@ root_below f x h = made-nan f ∙ go x (subst (λ (z : Float). T (lt x z)) (zero
     go (fin false m e) t = absurd (omega (arith, ltb→lt (m * up e * 1) (0 * 1 * down e) t))
 
 -- ---- a finite number's pattern is below the infinity's
-n-lt : (f : Format) (m : ℕ) (e : ℤ) → m * up e < 2 ^ suc (emax f) * down e → m * up e * 2 ^ low f / down e < 2 ^ (low f + suc (emax f))
-n-lt f m e h =
+n_lt : (f : Format) (m : ℕ) (e : ℤ) → m * up e < 2 ^ suc (emax f) * down e → m * up e * 2 ^ low f / down e < 2 ^ (low f + suc (emax f))
+n_lt f m e h =
     (div-lt_iff_lt-mul (down_pos e)).1
     (lt_of_lt_of_le (mul-lt-mul_of_pos_right h (pow_pos (low f)))
     (le_of_eq (mul_right_comm (2 ^ suc (emax f)) (down e) (2 ^ low f) ∙ ap (λ (x : ℕ). x * down e) (mul_comm (2 ^ suc (emax f)) (2 ^ low f) ∙ sym (pow-add 2 (low f) (suc (emax f)))))))
@@ -73,12 +73,12 @@ under_ones o k H w a b =
     let d : (k + 2) * H ≡ k * H + 2 * H = add-mul k 2 H in
     omega arith
 
-pub finite-under : (f : Format) (m : ℕ) (e : ℤ) → T (fits f (fin false (suc m) e)) → to_bits f (fin false (suc m) e) < ones f * hid f
+pub finite_under : (f : Format) (m : ℕ) (e : ℤ) → T (fits f (fin false (suc m) e)) → to_bits f (fin false (suc m) e) < ones f * hid f
 unfolding fits to_bits
-finite-under f m e t =
+finite_under f m e t =
     let n = suc m * up e * 2 ^ low f / down e in
     let h : suc m * up e < 2 ^ suc (emax f) * down e = ltb→lt (suc m * up e) (2 ^ suc (emax f) * down e) (and_r (eqb (suc m % 2) 1 && ltb (suc m) (2 ^ prec f) && leb (down e) (2 ^ low f)) (ltb (suc m * up e) (2 ^ suc (emax f) * down e)) t) in
-    let s : size n ≤ low f + suc (emax f) = size-le n (low f + suc (emax f)) (n-lt f (suc m) e h) in
+    let s : size n ≤ low f + suc (emax f) = size-le n (low f + suc (emax f)) (n_lt f (suc m) e h) in
     under_ones (ones f) (size n - prec f) (hid f) (n / 2 ^ (size n - prec f)) (omega (arith, sizes f)) (lt_of_lt_of_le (kept-lt (prec f) n) (le_of_eq (half_pow (prec f) (two f))))
 
 -- ---- what is left: above zero
@@ -88,8 +88,8 @@ Above (inf s) = s ≡ false
 Above (fin s zero e) = ⊥
 Above (fin s (suc m) e) = s ≡ false
 
-level-zero : (s : Bool) (a b : ℕ) → a ≡ 0 → b ≡ 0 → level s a false b ≡ true
-level-zero s a b x y = ap (λ (a : ℕ). level s a false b) x ∙ ap (λ (b : ℕ). level s 0 false b) y ∙ go s
+level_zero : (s : Bool) (a b : ℕ) → a ≡ 0 → b ≡ 0 → level s a false b ≡ true
+level_zero s a b x y = ap (λ (a : ℕ). level s a false b) x ∙ ap (λ (b : ℕ). level s 0 false b) y ∙ go s
   where
     go : (s : Bool) → level s 0 false 0 ≡ true
     go true = refl
@@ -100,47 +100,47 @@ unfolding is_nan eq lt
 above nan n z b = absurd n
 above (inf true) n z b = absurd (true≢false b)
 above (inf false) n z b = refl
-above (fin s zero e) n z b = absurd (false≢true (sym z ∙ level-zero s (0 * up e * 1) (0 * 1 * down e) (omega arith) (omega arith)))
+above (fin s zero e) n z b = absurd (false≢true (sym z ∙ level_zero s (0 * up e * 1) (0 * 1 * down e) (omega arith) (omega arith)))
 above (fin true (suc m) e) n z b = absurd (true≢false (sym (is_true (ltb 0 (suc m * up e * 1 + 0 * 1 * down e)) (lt→ltb 0 (suc m * up e * 1 + 0 * 1 * down e) (omega (arith, mul-pos (zero-lt-suc m) (up_pos e))))) ∙ b))
 above (fin false (suc m) e) n z b = refl
 
 -- ---- `units` makes no NaN, and what it makes fits
-odd-plain : (d : ℕ) (s : Bool) (q k l : ℕ) → T (not (is_nan (odd d s q k l)))
+odd_plain : (d : ℕ) (s : Bool) (q k l : ℕ) → T (not (is_nan (odd d s q k l)))
 unfolding odd is_nan
-odd-plain d s zero k l = tt
-odd-plain d s (suc q) k l = tt
+odd_plain d s zero k l = tt
+odd_plain d s (suc q) k l = tt
 
-pub units-plain : (f : Format) (s : Bool) (q k : ℕ) → T (not (is_nan (units f s q k)))
+pub units_plain : (f : Format) (s : Bool) (q k : ℕ) → T (not (is_nan (units f s q k)))
 unfolding units is_nan
-units-plain f s q k = go (ltb (q * 2 ^ k) (2 ^ (low f + suc (emax f))))
+units_plain f s q k = go (ltb (q * 2 ^ k) (2 ^ (low f + suc (emax f))))
   where
     go : (b : Bool) → T (not (is_nan (cond b (odd (suc (prec f)) s q k (low f)) (inf s))))
-    go true = odd-plain (suc (prec f)) s q k (low f)
+    go true = odd_plain (suc (prec f)) s q k (low f)
     go false = tt
 
-pub units-fits : (f : Format) (s : Bool) (q k : ℕ) → q ≤ 2 ^ prec f → T (fits f (units f s q k))
+pub units_fits : (f : Format) (s : Bool) (q k : ℕ) → q ≤ 2 ^ prec f → T (fits f (units f s q k))
 unfolding units
-units-fits f s q k a = go (ltb (q * 2 ^ k) (2 ^ (low f + suc (emax f)))) (ltb→lt (q * 2 ^ k) (2 ^ (low f + suc (emax f))))
+units_fits f s q k a = go (ltb (q * 2 ^ k) (2 ^ (low f + suc (emax f)))) (ltb→lt (q * 2 ^ k) (2 ^ (low f + suc (emax f))))
   where
     go : (b : Bool) → (T b → q * 2 ^ k < 2 ^ (low f + suc (emax f))) → T (fits f (cond b (odd (suc (prec f)) s q k (low f)) (inf s)))
     go true h = odd-fits f (suc (prec f)) s q k (lt_of_le_of_lt a (pow-lt (le_refl (suc (prec f))))) a (h tt)
     go false h = inf-fits f s
 
-place-fits : (f : Format) (s : Bool) (w : ℕ) (o : ℕ → Ordering) → T (fits f (place f s w o)) × T (not (is_nan (place f s w o)))
+place_fits : (f : Format) (s : Bool) (w : ℕ) (o : ℕ → Ordering) → T (fits f (place f s w o)) × T (not (is_nan (place f s w o)))
 unfolding place
-place-fits f s w o =
+place_fits f s w o =
     let k = size w - prec f in
     let q = w / 2 ^ k in
-    (units-fits f s (nearest q (o ((2 * q + 1) * 2 ^ k))) k (le_trans (nearest-le q (o ((2 * q + 1) * 2 ^ k))) (kept-lt (prec f) w)), units-plain f s (nearest q (o ((2 * q + 1) * 2 ^ k))) k)
+    (units_fits f s (nearest q (o ((2 * q + 1) * 2 ^ k))) k (le_trans (nearest-le q (o ((2 * q + 1) * 2 ^ k))) (kept-lt (prec f) w)), units_plain f s (nearest q (o ((2 * q + 1) * 2 ^ k))) k)
 
-pub root-fits : (f : Format) (m : ℕ) (e : ℤ) → T (fits f (root f (fin false (suc m) e))) × T (not (is_nan (root f (fin false (suc m) e))))
-unfolding root rootOf
-root-fits f m e = place-fits f false (wholeRoot (suc m * up e * 4 ^ low f / down e)) (λ t. compare (4 * (suc m * up e * 4 ^ low f)) (t * t * down e))
+pub root_fits : (f : Format) (m : ℕ) (e : ℤ) → T (fits f (root f (fin false (suc m) e))) × T (not (is_nan (root f (fin false (suc m) e))))
+unfolding root root_of
+root_fits f m e = place_fits f false (whole_root (suc m * up e * 4 ^ low f / down e)) (λ t. compare (4 * (suc m * up e * 4 ^ low f)) (t * t * down e))
 
 -- ---- what the proofs of `sqrt64` and `sqrt32` cite, once the tests for a NaN, a zero and a number below zero have failed
 module _ (f : Format) (x : Float) (F : T (fits f x)) (n : ne x x ≡ false) (z : eq x (of_bits f 0) ≡ false) (b : lt x (of_bits f 0) ≡ false) where
-  is-above : Above x
-  is-above = above x (no_nan x n) (subst (λ (y : Float). eq x y ≡ false) (zero_is f) z) (subst (λ (y : Float). lt x y ≡ false) (zero_is f) b)
+  is_above : Above x
+  is_above = above x (no_nan x n) (subst (λ (y : Float). eq x y ≡ false) (zero_is f) z) (subst (λ (y : Float). lt x y ≡ false) (zero_is f) b)
 
   pub bits_pos : 0 < to_bits f x
   bits_pos = go (eq-zero-or-pos (to_bits f x))
@@ -152,8 +152,8 @@ module _ (f : Format) (x : Float) (F : T (fits f x)) (n : ne x x ≡ false) (z :
           same : eq (fin false 0 (pos 0)) (fin false 0 (pos 0)) ≡ true
           same = unfold eq in refl
 
-  pub root-inf : ones f * hid f ≤ to_bits f x → x ≡ root f x
-  root-inf h = go x is-above F h
+  pub root_inf : ones f * hid f ≤ to_bits f x → x ≡ root f x
+  root_inf h = go x is_above F h
     where
       go : (x : Float) → Above x → T (fits f x) → ones f * hid f ≤ to_bits f x → x ≡ root f x
       go nan a F h = absurd a
@@ -161,12 +161,12 @@ module _ (f : Format) (x : Float) (F : T (fits f x)) (n : ne x x ≡ false) (z :
       go (inf false) a F h = unfold root in refl
       go (fin s zero e) a F h = absurd a
       go (fin true (suc m) e) a F h = absurd (true≢false a)
-      go (fin false (suc m) e) a F h = absurd (lt_irrefl (ones f * hid f) (lt_of_le_of_lt h (finite-under f m e F)))
+      go (fin false (suc m) e) a F h = absurd (lt_irrefl (ones f * hid f) (lt_of_le_of_lt h (finite_under f m e F)))
 
   -- below the infinity's, the pattern r that `root_bits` gives is read as the root
   module _ (u : to_bits f x < ones f * hid f) (r : ℕ) (e : r ≡ to_bits f (root f (of_bits f (to_bits f x)))) where
     good : T (fits f (root f x)) × T (not (is_nan (root f x)))
-    good = go x is-above u
+    good = go x is_above u
       where
         go : (x : Float) → Above x → to_bits f x < ones f * hid f → T (fits f (root f x)) × T (not (is_nan (root f x)))
         go nan a h = absurd a
@@ -174,13 +174,13 @@ module _ (f : Format) (x : Float) (F : T (fits f x)) (n : ne x x ≡ false) (z :
         go (inf false) a h = (unfold root fits in tt, unfold root is_nan in tt)
         go (fin s zero e) a h = absurd a
         go (fin true (suc m) e) a h = absurd (true≢false a)
-        go (fin false (suc m) e) a h = root-fits f m e
+        go (fin false (suc m) e) a h = root_fits f m e
 
     pub reads : of_bits f r ≡ root f x
     reads = ap (of_bits f) (e ∙ ap (λ (y : Float). to_bits f (root f y)) (of_bits-to_bits f x F)) ∙ of_bits-to_bits f (root f x) good.0
 
-    pub no-nan-pattern : T (not (nan_bits f r))
-    no-nan-pattern = subst (λ (y : Bool). T (not y)) (sym (nan_bits_is f r ∙ ap is_nan reads)) good.1
+    pub no_nan_pattern : T (not (nan_bits f r))
+    no_nan_pattern = subst (λ (y : Bool). T (not y)) (sym (nan_bits_is f r ∙ ap is_nan reads)) good.1
 
     pub short : r < 2 * top f
     short = subst (λ (y : ℕ). y < 2 * top f) (sym (e ∙ ap (λ (y : Float). to_bits f (root f y)) (of_bits-to_bits f x F))) (to_bits-lt f (root f x) good.0)

@@ -1,4 +1,4 @@
--- Where `place` puts a number, over every format: at `nearest q o` times 2 ^ k, for the q and k that the number's whole part shows. And what `wholeRoot` gives.
+-- Where `place` puts a number, over every format: at `nearest q o` times 2 ^ k, for the q and k that the number's whole part shows. And what `whole_root` gives.
 -- Assumes nothing.
 use Rattle.std.proofs.Common.{◌≡◌, ℕ, zero, suc, ◌+◌, ◌-◌, ◌*◌, ◌/◌, ◌^◌, ◌<◌, ◌≤◌, Bool, true, false, cond, not, T, leb, ◌⊎◌, sym, refl, ap, ◌∙◌, subst, inl, inr, le_trans, le_of_eq, le_refl, lt_of_lt_of_le, le_of_suc-le-suc, lt_of_le_of_lt, lt_irrefl, mul-le-mul_right, zero-lt-suc, mul_assoc, suc-mul, mul_comm, div-lt_iff_lt-mul, mul-le-mul, le_antisymm, mul-lt-mul_of_pos_right, pow-suc, lt_of_not-le, mul-one, mul-div_cancel, add-one, arith, leb→le, pow_pos, pow_mono, pow-add}
 use Prim.Native.Nat.{compare, Ordering}
@@ -7,26 +7,26 @@ use lib.Dec.{nleb→lt}
 use lib.Ieee.{Format, prec, low, size, nearest, units}
 use lib.Ieee.Digits.{size-lt, size-le}
 use lib.Ieee.Fits.{two}
-use Rattle.rounding.specs.Root.{rootDigits, wholeRoot, place, rootOf}
+use Rattle.rounding.specs.Root.{root_digits, whole_root, place, root_of}
 use Rattle.rounding.proofs.Half.{Cmp, cmp}
 
 -- ---- `compare`, from a fact
-cmp-one : (o p : Ordering) (a b : ℕ) → Cmp o a b → Cmp p a b → o ≡ p
-cmp-one Ordering.lt Ordering.lt a b x y = refl
-cmp-one Ordering.lt Ordering.eq a b x y = absurd (omega arith)
-cmp-one Ordering.lt Ordering.gt a b x y = absurd (omega arith)
-cmp-one Ordering.eq Ordering.lt a b x y = absurd (omega arith)
-cmp-one Ordering.eq Ordering.eq a b x y = refl
-cmp-one Ordering.eq Ordering.gt a b x y = absurd (omega arith)
-cmp-one Ordering.gt Ordering.lt a b x y = absurd (omega arith)
-cmp-one Ordering.gt Ordering.eq a b x y = absurd (omega arith)
-cmp-one Ordering.gt Ordering.gt a b x y = refl
+cmp_one : (o p : Ordering) (a b : ℕ) → Cmp o a b → Cmp p a b → o ≡ p
+cmp_one Ordering.lt Ordering.lt a b x y = refl
+cmp_one Ordering.lt Ordering.eq a b x y = absurd (omega arith)
+cmp_one Ordering.lt Ordering.gt a b x y = absurd (omega arith)
+cmp_one Ordering.eq Ordering.lt a b x y = absurd (omega arith)
+cmp_one Ordering.eq Ordering.eq a b x y = refl
+cmp_one Ordering.eq Ordering.gt a b x y = absurd (omega arith)
+cmp_one Ordering.gt Ordering.lt a b x y = absurd (omega arith)
+cmp_one Ordering.gt Ordering.eq a b x y = absurd (omega arith)
+cmp_one Ordering.gt Ordering.gt a b x y = refl
 
-pub compare-is : (o : Ordering) (a b : ℕ) → Cmp o a b → compare a b ≡ o
-compare-is o a b h = cmp-one (compare a b) o a b (cmp a b) h
+pub compare_is : (o : Ordering) (a b : ℕ) → Cmp o a b → compare a b ≡ o
+compare_is o a b h = cmp_one (compare a b) o a b (cmp a b) h
 
-pub compare-scaled : (a b d : ℕ) → 0 < d → compare (a * d) (b * d) ≡ compare a b
-compare-scaled a b d D = compare-is (compare a b) (a * d) (b * d) (go (compare a b) (cmp a b))
+pub compare_scaled : (a b d : ℕ) → 0 < d → compare (a * d) (b * d) ≡ compare a b
+compare_scaled a b d D = compare_is (compare a b) (a * d) (b * d) (go (compare a b) (cmp a b))
   where
     go : (o : Ordering) → Cmp o a b → Cmp o (a * d) (b * d)
     go Ordering.lt h = mul-lt-mul_of_pos_right h D
@@ -75,62 +75,62 @@ place_at f s w o q k lo hi Q F =
 abbrev pub Root : ℕ → ℕ → Type 0
 Root n w = (w * w ≤ n) × (n < suc w * suc w)
 
-square-twice : (r : ℕ) → 2 * r * (2 * r) ≡ 4 * (r * r)
-square-twice r = mul-mul-mul_comm 2 r 2 r
+square_twice : (r : ℕ) → 2 * r * (2 * r) ≡ 4 * (r * r)
+square_twice r = mul-mul-mul_comm 2 r 2 r
 
-pub square-suc : (r : ℕ) → suc r * suc r ≡ r * r + 2 * r + 1
-square-suc r =
+pub square_suc : (r : ℕ) → suc r * suc r ≡ r * r + 2 * r + 1
+square_suc r =
     let a : suc r * suc r ≡ r * suc r + suc r = suc-mul r (suc r) in
     let b : r * suc r ≡ suc r * r = mul_comm r (suc r) in
     let c : suc r * r ≡ r * r + r = suc-mul r r in
     omega arith
 
-root-step : (n r : ℕ) (b : Bool) → Root (n / 4) r → (T b → suc (2 * r) * suc (2 * r) ≤ n) → (T (not b) → n < suc (2 * r) * suc (2 * r)) → Root n (cond b (suc (2 * r)) (2 * r))
-root-step n r true h y u =
-    let k : suc r * suc r ≡ r * r + 2 * r + 1 = square-suc r in
-    let a : suc (suc (2 * r)) * suc (suc (2 * r)) ≡ suc (2 * r) * suc (2 * r) + 2 * suc (2 * r) + 1 = square-suc (suc (2 * r)) in
-    let b : suc (2 * r) * suc (2 * r) ≡ 2 * r * (2 * r) + 2 * (2 * r) + 1 = square-suc (2 * r) in
-    let c : 2 * r * (2 * r) ≡ 4 * (r * r) = square-twice r in
+root_step : (n r : ℕ) (b : Bool) → Root (n / 4) r → (T b → suc (2 * r) * suc (2 * r) ≤ n) → (T (not b) → n < suc (2 * r) * suc (2 * r)) → Root n (cond b (suc (2 * r)) (2 * r))
+root_step n r true h y u =
+    let k : suc r * suc r ≡ r * r + 2 * r + 1 = square_suc r in
+    let a : suc (suc (2 * r)) * suc (suc (2 * r)) ≡ suc (2 * r) * suc (2 * r) + 2 * suc (2 * r) + 1 = square_suc (suc (2 * r)) in
+    let b : suc (2 * r) * suc (2 * r) ≡ 2 * r * (2 * r) + 2 * (2 * r) + 1 = square_suc (2 * r) in
+    let c : 2 * r * (2 * r) ≡ 4 * (r * r) = square_twice r in
     (y tt, omega arith)
-root-step n r false h y u =
-    let c : 2 * r * (2 * r) ≡ 4 * (r * r) = square-twice r in
+root_step n r false h y u =
+    let c : 2 * r * (2 * r) ≡ 4 * (r * r) = square_twice r in
     (omega arith, u tt)
 
-digits-root : (d n : ℕ) → n < 4 ^ d → Root n (rootDigits d n)
-unfolding rootDigits
-digits-root zero n h = (omega arith, omega arith)
-digits-root (suc d) n h =
-    let r = rootDigits d (n / 4) in
-    root-step n r (leb (suc (2 * r) * suc (2 * r)) n) (digits-root d (n / 4) ((div-lt_iff_lt-mul (zero-lt-suc 3)).1 (subst (λ (x : ℕ). n < x) (pow-suc 4 d) h)))
+digits_root : (d n : ℕ) → n < 4 ^ d → Root n (root_digits d n)
+unfolding root_digits
+digits_root zero n h = (omega arith, omega arith)
+digits_root (suc d) n h =
+    let r = root_digits d (n / 4) in
+    root_step n r (leb (suc (2 * r) * suc (2 * r)) n) (digits_root d (n / 4) ((div-lt_iff_lt-mul (zero-lt-suc 3)).1 (subst (λ (x : ℕ). n < x) (pow-suc 4 d) h)))
     (leb→le (suc (2 * r) * suc (2 * r)) n) (nleb→lt (suc (2 * r) * suc (2 * r)) n)
 
 pub four : (d : ℕ) → 4 ^ d ≡ 2 ^ d * 2 ^ d
 four zero = refl
 four (suc d) = pow-suc 4 d ∙ ap (λ (x : ℕ). x * 4) (four d) ∙ sym (ap (λ (x : ℕ). x * x) (pow-suc 2 d) ∙ mul-mul-mul_comm (2 ^ d) 2 (2 ^ d) 2)
 
-pub root_is : (n : ℕ) → Root n (wholeRoot n)
-unfolding wholeRoot
-root_is n = digits-root (size n) n (lt_of_lt_of_le (size-lt n) (le_trans (le_of_eq (sym (mul-one (2 ^ size n)))) (le_trans (mul-le-mul (le_refl (2 ^ size n)) (pow_pos (size n))) (le_of_eq (sym (four (size n)))))))
+pub root_is : (n : ℕ) → Root n (whole_root n)
+unfolding whole_root
+root_is n = digits_root (size n) n (lt_of_lt_of_le (size-lt n) (le_trans (le_of_eq (sym (mul-one (2 ^ size n)))) (le_trans (mul-le-mul (le_refl (2 ^ size n)) (pow_pos (size n))) (le_of_eq (sym (four (size n)))))))
 
-square-mono : {a b : ℕ} → a ≤ b → a * a ≤ b * b
-square-mono h = mul-le-mul h h
+square_mono : {a b : ℕ} → a ≤ b → a * a ≤ b * b
+square_mono h = mul-le-mul h h
 
-pub root_ge : (n x : ℕ) → x * x ≤ n → x ≤ wholeRoot n
-root_ge n x h = le_of_suc-le-suc (lt_of_not-le (λ (g : suc (wholeRoot n) ≤ x). lt_irrefl n (lt_of_lt_of_le (root_is n).1 (le_trans (square-mono g) h))))
+pub root_ge : (n x : ℕ) → x * x ≤ n → x ≤ whole_root n
+root_ge n x h = le_of_suc-le-suc (lt_of_not-le (λ (g : suc (whole_root n) ≤ x). lt_irrefl n (lt_of_lt_of_le (root_is n).1 (le_trans (square_mono g) h))))
 
-pub root-lt : (n x : ℕ) → n < x * x → wholeRoot n < x
-root-lt n x h = lt_of_not-le (λ (g : x ≤ wholeRoot n). lt_irrefl n (lt_of_lt_of_le h (le_trans (square-mono g) (root_is n).0)))
+pub root_lt : (n x : ℕ) → n < x * x → whole_root n < x
+root_lt n x h = lt_of_not-le (λ (g : x ≤ whole_root n). lt_irrefl n (lt_of_lt_of_le h (le_trans (square_mono g) (root_is n).0)))
 
 -- ---- where num / den is A exactly, in squares of units
-pub root-exact : (f : Format) (num den A : ℕ) → 0 < den → num * 4 ^ low f ≡ A * den → rootOf f num den ≡ place f false (wholeRoot A) (λ t. compare (4 * A) (t * t))
-unfolding rootOf place
-root-exact f num den A D e =
+pub root_exact : (f : Format) (num den A : ℕ) → 0 < den → num * 4 ^ low f ≡ A * den → root_of f num den ≡ place f false (whole_root A) (λ t. compare (4 * A) (t * t))
+unfolding root_of place
+root_exact f num den A D e =
     let n = num * 4 ^ low f in
-    let w = wholeRoot A in
+    let w = whole_root A in
     let k = size w - prec f in
     let q = w / 2 ^ k in
     let t = (2 * q + 1) * 2 ^ k in
-    let r : wholeRoot (n / den) ≡ w = ap wholeRoot (ap (λ (x : ℕ). x / den) e ∙ mul-div_cancel A D) in
+    let r : whole_root (n / den) ≡ w = ap whole_root (ap (λ (x : ℕ). x / den) e ∙ mul-div_cancel A D) in
     ap (λ (v : ℕ). place f false v (λ t. compare (4 * n) (t * t * den))) r
     ∙ ap (λ (x : ℕ). units f false (nearest q (compare x (t * t * den))) k) (ap (λ (x : ℕ). 4 * x) e ∙ sym (mul_assoc 4 A den))
-    ∙ ap (λ (x : Ordering). units f false (nearest q x) k) (compare-scaled (4 * A) (t * t) den D)
+    ∙ ap (λ (x : Ordering). units f false (nearest q x) k) (compare_scaled (4 * A) (t * t) den D)

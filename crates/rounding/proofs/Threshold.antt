@@ -5,7 +5,7 @@ use lib.Pow.{suc_ones, ones_lt}
 use lib.Ieee.{Format, prec, emax, low, size, ones}
 use lib.Ieee.Fits.{two}
 use lib.Ieee.Scale.{overflow}
-use Rattle.rounding.specs.Rounded.{Holds, lastDigit, Nearest, largest}
+use Rattle.rounding.specs.Rounded.{Holds, last_digit, Nearest, largest}
 use Rattle.rounding.proofs.Place.{Full, dropped}
 use Rattle.rounding.proofs.RootBits.{sizes}
 use Rattle.rounding.proofs.Rounding.{gap_down, holds}
@@ -15,14 +15,14 @@ use Rattle.rounding.proofs.Half.{half_pow}
 abbrev most : Format → ℕ
 most f = (2 ^ prec f - 1) * 2 ^ (ones f - 2)
 
-next-is : (f : Format) → suc (2 ^ prec f - 1) * 2 ^ (ones f - 2) ≡ overflow f
-next-is f = ap (λ (x : ℕ). x * 2 ^ (ones f - 2)) (suc_ones (prec f)) ∙ sym (pow-add 2 (prec f) (ones f - 2)) ∙ ap (λ (x : ℕ). 2 ^ x) (omega (arith, sizes f))
+next_is : (f : Format) → suc (2 ^ prec f - 1) * 2 ^ (ones f - 2) ≡ overflow f
+next_is f = ap (λ (x : ℕ). x * 2 ^ (ones f - 2)) (suc_ones (prec f)) ∙ sym (pow-add 2 (prec f) (ones f - 2)) ∙ ap (λ (x : ℕ). 2 ^ x) (omega (arith, sizes f))
 
 step : (f : Format) → overflow f ≡ most f + 2 ^ (ones f - 2)
-step f = sym (next-is f) ∙ suc-mul (2 ^ prec f - 1) (2 ^ (ones f - 2))
+step f = sym (next_is f) ∙ suc-mul (2 ^ prec f - 1) (2 ^ (ones f - 2))
 
-most-is : (f : Format) → largest f ≡ most f
-most-is f = ap (λ (x : ℕ). overflow f - 2 ^ x) (place f) ∙ omega (arith, step f)
+most_is : (f : Format) → largest f ≡ most f
+most_is f = ap (λ (x : ℕ). overflow f - 2 ^ x) (place f) ∙ omega (arith, step f)
   where
     place : (f : Format) → low f + suc (emax f) - prec f ≡ ones f - 2
     place f = omega (arith, sizes f)
@@ -39,7 +39,7 @@ module _ (f : Format) (Under Over : ℕ → Type 0) (less : (s t : ℕ) → s �
   full = inr (omega (arith, half_pow (prec f) (two f), pow_pos (prec f - 1)))
 
   top : Holds (prec f) (overflow f)
-  top = subst (λ (x : ℕ). Holds (prec f) x) (next-is f) (holds (prec f) (suc (2 ^ prec f - 1)) (ones f - 2) (two f) l_lt)
+  top = subst (λ (x : ℕ). Holds (prec f) x) (next_is f) (holds (prec f) (suc (2 ^ prec f - 1)) (ones f - 2) (two f) l_lt)
 
   there : Under (most f + overflow f) → overflow f ≤ g
   there u = go (ltb g (overflow f)) (ltb→lt g (overflow f)) (nltb→le g (overflow f))
@@ -49,13 +49,13 @@ module _ (f : Format) (Under Over : ℕ → Type 0) (less : (s t : ℕ) → s �
           let p = prec f in
           let k = ones f - 2 in
           let q = 2 ^ p - 1 in
-          let a : g ≤ most f = gap_down p g q k (two f) N.held full (lt_of_lt_of_le l (le_of_eq (sym (next-is f)))) in
+          let a : g ≤ most f = gap_down p g q k (two f) N.held full (lt_of_lt_of_le l (le_of_eq (sym (next_is f)))) in
           let o : Over (g + overflow f) = N.larger (overflow f) top l in
           let b : most f + overflow f ≤ g + overflow f = apart (g + overflow f) (most f + overflow f) u o in
           let e : g ≡ most f = omega arith in
-          let z : lastDigit p g ≡ 0 = N.even (overflow f) top (λ i. omega arith) (subst Under (add_comm (most f) (overflow f) ∙ ap (λ (x : ℕ). overflow f + x) (sym e)) u) (subst Over (add_comm g (overflow f)) o) in
+          let z : last_digit p g ≡ 0 = N.even (overflow f) top (λ i. omega arith) (subst Under (add_comm (most f) (overflow f) ∙ ap (λ (x : ℕ). overflow f + x) (sym e)) u) (subst Over (add_comm g (overflow f)) o) in
           let d : size g - p ≡ k = dropped p g q k (two f) (le_of_eq (sym e)) (lt_of_le_of_lt (le_of_eq e) (mul-lt-mul_of_pos_right (lt-suc_self q) (pow_pos k))) l_lt full in
-          let v : lastDigit p g ≡ q % 2 = ap (λ (x : ℕ). g / 2 ^ x % 2) d ∙ ap (λ (x : ℕ). x % 2) (ap (λ (x : ℕ). x / 2 ^ k) e ∙ mul-div_cancel q (pow_pos k)) in
+          let v : last_digit p g ≡ q % 2 = ap (λ (x : ℕ). g / 2 ^ x % 2) d ∙ ap (λ (x : ℕ). x % 2) (ap (λ (x : ℕ). x / 2 ^ k) e ∙ mul-div_cancel q (pow_pos k)) in
           odd p (two f) (sym v ∙ z)
         where
           odd : (p : ℕ) → 2 ≤ p → (2 ^ p - 1) % 2 ≡ 0 → ⊥
@@ -65,8 +65,8 @@ module _ (f : Format) (Under Over : ℕ → Type 0) (less : (s t : ℕ) → s �
       go true l h = absurd (no (l tt))
       go false l h = h tt
 
-  pub past-largest : overflow f ≤ g → Under (largest f + overflow f)
-  past-largest h = subst (λ (x : ℕ). Under (x + overflow f)) (sym (most-is f)) (past h)
+  pub past_largest : overflow f ≤ g → Under (largest f + overflow f)
+  past_largest h = subst (λ (x : ℕ). Under (x + overflow f)) (sym (most_is f)) (past h)
 
-  pub from-there : Under (largest f + overflow f) → overflow f ≤ g
-  from-there u = there (subst (λ (x : ℕ). Under (x + overflow f)) (most-is f) u)
+  pub from_there : Under (largest f + overflow f) → overflow f ≤ g
+  from_there u = there (subst (λ (x : ℕ). Under (x + overflow f)) (most_is f) u)

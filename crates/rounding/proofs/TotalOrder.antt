@@ -5,51 +5,51 @@ use borrow.Author.Tests.{lt-leb}
 use lib.Ieee.{Float, nan, inf, fin, binary64, fits, is_nan, of_bits, to_bits, below, level}
 use lib.Ieee.Fits.{two}
 use lib.Ieee.Bits.{is_false, of_bits-to_bits, to_bits-lt}
-use Rattle.rounding.specs.Methods.{negative, totalKey, totalLe, valueLe}
+use Rattle.rounding.specs.Methods.{negative, total_key, total_le, value_le}
 use Rattle.rounding.specs.TotalOrder.{Reflexive, Transitive, Total, Antisymmetric, ByValue}
 use Rattle.rounding.proofs.Half.{Cmp, cmp}
-use Rattle.rounding.proofs.Magnitude.{sized, sized-le, sized-bits, sized-lt, sized-eq, pattern, pattern_lt, pattern-le}
+use Rattle.rounding.proofs.Magnitude.{sized, sized_le, sized_bits, sized_lt, sized_eq, pattern, pattern_lt, pattern_le}
 
 -- ---- an order of whole numbers
 pub reflexive : Reflexive
-unfolding totalLe
-reflexive x = le-leb (totalKey x) (totalKey x) (le_refl (totalKey x))
+unfolding total_le
+reflexive x = le-leb (total_key x) (total_key x) (le_refl (total_key x))
 
 pub transitive : Transitive
-unfolding totalLe
-transitive x y z p q = le-leb (totalKey x) (totalKey z) (le_trans (leb-true (totalKey x) (totalKey y) p) (leb-true (totalKey y) (totalKey z) q))
+unfolding total_le
+transitive x y z p q = le-leb (total_key x) (total_key z) (le_trans (leb-true (total_key x) (total_key y) p) (leb-true (total_key y) (total_key z) q))
 
 pub total : Total
-unfolding totalLe
-total x y = go (leb (totalKey x) (totalKey y)) refl
+unfolding total_le
+total x y = go (leb (total_key x) (total_key y)) refl
   where
-    go : (b : Bool) → leb (totalKey x) (totalKey y) ≡ b → (leb (totalKey x) (totalKey y) ≡ true) ⊎ (leb (totalKey y) (totalKey x) ≡ true)
+    go : (b : Bool) → leb (total_key x) (total_key y) ≡ b → (leb (total_key x) (total_key y) ≡ true) ⊎ (leb (total_key y) (total_key x) ≡ true)
     go true e = inl e
-    go false e = inr (le-leb (totalKey y) (totalKey x) (omega (arith, leb-false (totalKey x) (totalKey y) e)))
+    go false e = inr (le-leb (total_key y) (total_key x) (omega (arith, leb-false (total_key x) (total_key y) e)))
 
 -- ---- the pattern, and so the float, from the key
 back : ℕ → ℕ
 back k = cond (ltb k (2 ^ 63)) (2 ^ 64 - 1 - k) (k - 2 ^ 63)
 
-back-key : (b : ℕ) → b < 2 ^ 64 → back (cond (ltb b (2 ^ 63)) (b + 2 ^ 63) (2 ^ 64 - 1 - b)) ≡ b
+back_key : (b : ℕ) → b < 2 ^ 64 → back (cond (ltb b (2 ^ 63)) (b + 2 ^ 63) (2 ^ 64 - 1 - b)) ≡ b
 unfolding back
-back-key b h = go (ltb b (2 ^ 63)) refl
+back_key b h = go (ltb b (2 ^ 63)) refl
   where
     go : (t : Bool) → ltb b (2 ^ 63) ≡ t → back (cond t (b + 2 ^ 63) (2 ^ 64 - 1 - b)) ≡ b
     go true e = rw (le-ltb (b + 2 ^ 63) (2 ^ 63) (omega arith)) (omega arith)
     go false e = rw (lt-ltb (2 ^ 64 - 1 - b) (2 ^ 63) (omega (arith, ltb-false b (2 ^ 63) e))) (omega arith)
 
-key_back : (x : Float) → T (fits binary64 x) → of_bits binary64 (back (totalKey x)) ≡ x
-unfolding totalKey is_nan back of_bits
+key_back : (x : Float) → T (fits binary64 x) → of_bits binary64 (back (total_key x)) ≡ x
+unfolding total_key is_nan back of_bits
 key_back nan F = refl
-key_back (inf s) F = ap (of_bits binary64) (back-key (to_bits binary64 (inf s)) (to_bits-lt binary64 (inf s) F)) ∙ of_bits-to_bits binary64 (inf s) F
-key_back (fin s m e) F = ap (of_bits binary64) (back-key (to_bits binary64 (fin s m e)) (to_bits-lt binary64 (fin s m e) F)) ∙ of_bits-to_bits binary64 (fin s m e) F
+key_back (inf s) F = ap (of_bits binary64) (back_key (to_bits binary64 (inf s)) (to_bits-lt binary64 (inf s) F)) ∙ of_bits-to_bits binary64 (inf s) F
+key_back (fin s m e) F = ap (of_bits binary64) (back_key (to_bits binary64 (fin s m e)) (to_bits-lt binary64 (fin s m e) F)) ∙ of_bits-to_bits binary64 (fin s m e) F
 
 pub antisymmetric : Antisymmetric
-unfolding totalLe
+unfolding total_le
 antisymmetric x y F G p q =
     sym (key_back x F)
-    ∙ ap (λ (k : ℕ). of_bits binary64 (back k)) (le_antisymm (leb-true (totalKey x) (totalKey y) p) (leb-true (totalKey y) (totalKey x) q))
+    ∙ ap (λ (k : ℕ). of_bits binary64 (back k)) (le_antisymm (leb-true (total_key x) (total_key y) p) (leb-true (total_key y) (total_key x) q))
     ∙ key_back y G
 
 -- ---- the key of a sign and a pattern without it
@@ -85,16 +85,16 @@ module _ (a b n m : ℕ) (up : a < b → n < m) (down : b < a → m < n) (same :
       go Ordering.gt h = rw (lt-ltb b a h) (le-leb (2 ^ 64 - 1 - (2 ^ 63 + n)) (2 ^ 64 - 1 - (2 ^ 63 + m)) (omega (arith, down h)))
 
 -- ---- numbers and infinities
-key-is : (x : Float) (s : Bool) (n : ℕ) → T (not (is_nan x)) → n < 2 ^ 63 → to_bits binary64 x ≡ cond s (2 ^ 63) 0 + n → totalKey x ≡ keyed s n
-unfolding totalKey
-key-is x s n N h e = rw (is_false (is_nan x) N, e) (go s)
+key_is : (x : Float) (s : Bool) (n : ℕ) → T (not (is_nan x)) → n < 2 ^ 63 → to_bits binary64 x ≡ cond s (2 ^ 63) 0 + n → total_key x ≡ keyed s n
+unfolding total_key
+key_is x s n N h e = rw (is_false (is_nan x) N, e) (go s)
   where
     go : (s : Bool) → cond (ltb (cond s (2 ^ 63) 0 + n) (2 ^ 63)) (cond s (2 ^ 63) 0 + n + 2 ^ 63) (2 ^ 64 - 1 - (cond s (2 ^ 63) 0 + n)) ≡ keyed s n
     go false = rw (lt-ltb (0 + n) (2 ^ 63) (omega arith)) (omega arith)
     go true = rw (le-ltb (2 ^ 63 + n) (2 ^ 63) (omega arith))
 
-numbers : (x y : Float) → T (fits binary64 x) → T (fits binary64 y) → T (not (is_nan x)) → T (not (is_nan y)) → totalLe x y ≡ valueLe x y
-unfolding totalLe valueLe
+numbers : (x y : Float) → T (fits binary64 x) → T (fits binary64 y) → T (not (is_nan x)) → T (not (is_nan y)) → total_le x y ≡ value_le x y
+unfolding total_le value_le
 numbers x y F G N M =
     let p = sized binary64 x F N in
     let q = sized binary64 y G M in
@@ -102,40 +102,40 @@ numbers x y F G N M =
     let t = negative y in
     let n = pattern 53 p.0 in
     let m = pattern 53 q.0 in
-    let n-le : n ≤ 0x7ff0_0000_0000_0000 = pattern-le binary64 p.0 p.1 (sized-le binary64 x s p.0 p.2) in
-    let m-le : m ≤ 0x7ff0_0000_0000_0000 = pattern-le binary64 q.0 q.1 (sized-le binary64 y t q.0 q.2) in
-    rw (key-is x s n N (omega arith) (sized-bits binary64 x s p.0 p.2), key-is y t m M (omega arith) (sized-bits binary64 y t q.0 q.2), is_false (is_nan x) N, is_false (is_nan y) M, sized-lt binary64 x y s t p.0 q.0 p.2 q.2, sized-eq binary64 x y s t p.0 q.0 p.2 q.2)
+    let n_le : n ≤ 0x7ff0_0000_0000_0000 = pattern_le binary64 p.0 p.1 (sized_le binary64 x s p.0 p.2) in
+    let m_le : m ≤ 0x7ff0_0000_0000_0000 = pattern_le binary64 q.0 q.1 (sized_le binary64 y t q.0 q.2) in
+    rw (key_is x s n N (omega arith) (sized_bits binary64 x s p.0 p.2), key_is y t m M (omega arith) (sized_bits binary64 y t q.0 q.2), is_false (is_nan x) N, is_false (is_nan y) M, sized_lt binary64 x y s t p.0 q.0 p.2 q.2, sized_eq binary64 x y s t p.0 q.0 p.2 q.2)
     (ordered p.0 q.0 n m
     (λ h. pattern_lt 53 p.0 q.0 (two binary64) p.1 q.1 h)
     (λ h. pattern_lt 53 q.0 p.0 (two binary64) q.1 p.1 h)
     (λ h. ap (pattern 53) h) (omega arith) (omega arith) s t)
 
 -- ---- the NaN is after each of them
-key-lt : (x : Float) → T (fits binary64 x) → T (not (is_nan x)) → totalKey x < 2 ^ 64 - 1
-key-lt x F N =
+key_lt : (x : Float) → T (fits binary64 x) → T (not (is_nan x)) → total_key x < 2 ^ 64 - 1
+key_lt x F N =
     let p = sized binary64 x F N in
     let s = negative x in
     let n = pattern 53 p.0 in
-    let h : n ≤ 0x7ff0_0000_0000_0000 = pattern-le binary64 p.0 p.1 (sized-le binary64 x s p.0 p.2) in
-    subst (λ (k : ℕ). k < 2 ^ 64 - 1) (sym (key-is x s n N (omega arith) (sized-bits binary64 x s p.0 p.2))) (go s n h)
+    let h : n ≤ 0x7ff0_0000_0000_0000 = pattern_le binary64 p.0 p.1 (sized_le binary64 x s p.0 p.2) in
+    subst (λ (k : ℕ). k < 2 ^ 64 - 1) (sym (key_is x s n N (omega arith) (sized_bits binary64 x s p.0 p.2))) (go s n h)
   where
     go : (s : Bool) (n : ℕ) → n ≤ 0x7ff0_0000_0000_0000 → keyed s n < 2 ^ 64 - 1
     go false n h = omega arith
     go true n h = omega arith
 
-nan_last : (x : Float) → T (fits binary64 x) → T (not (is_nan x)) → totalLe x nan ≡ valueLe x nan
-unfolding totalLe valueLe is_nan
-nan_last x F N = le-leb (totalKey x) (2 ^ 64 - 1) (omega (arith, key-lt x F N))
+nan_last : (x : Float) → T (fits binary64 x) → T (not (is_nan x)) → total_le x nan ≡ value_le x nan
+unfolding total_le value_le is_nan
+nan_last x F N = le-leb (total_key x) (2 ^ 64 - 1) (omega (arith, key_lt x F N))
 
-nan-first : (y : Float) → T (fits binary64 y) → T (not (is_nan y)) → totalLe nan y ≡ valueLe nan y
-unfolding totalLe valueLe is_nan
-nan-first y G M = lt-leb (2 ^ 64 - 1) (totalKey y) (key-lt y G M) ∙ sym (ap (λ (b : Bool). cond b true false) (is_false (is_nan y) M))
+nan_first : (y : Float) → T (fits binary64 y) → T (not (is_nan y)) → total_le nan y ≡ value_le nan y
+unfolding total_le value_le is_nan
+nan_first y G M = lt-leb (2 ^ 64 - 1) (total_key y) (key_lt y G M) ∙ sym (ap (λ (b : Bool). cond b true false) (is_false (is_nan y) M))
 
 pub by_value : ByValue
 unfolding is_nan
-by_value nan nan F G = unfold totalLe valueLe in refl
-by_value nan (inf t) F G = nan-first (inf t) G tt
-by_value nan (fin t n d) F G = nan-first (fin t n d) G tt
+by_value nan nan F G = unfold total_le value_le in refl
+by_value nan (inf t) F G = nan_first (inf t) G tt
+by_value nan (fin t n d) F G = nan_first (fin t n d) G tt
 by_value (inf s) nan F G = nan_last (inf s) F tt
 by_value (inf s) (inf t) F G = numbers (inf s) (inf t) F G tt tt
 by_value (inf s) (fin t n d) F G = numbers (inf s) (fin t n d) F G tt tt

@@ -12,10 +12,10 @@ use Rattle.rounding.specs.Rounded.{Holds}
 use Rattle.rounding.proofs.Encoding.{bits_of}
 
 -- ---- the finite values that a format holds
-pub value-held : (f : Format) (s : Bool) (m : ℕ) (e : ℤ) → T (fits f (fin s m e)) → (a : ℕ) × Holds (prec f) a × (a < overflow f) × HasValue (fin s m e) s a (2 ^ low f)
+pub value_held : (f : Format) (s : Bool) (m : ℕ) (e : ℤ) → T (fits f (fin s m e)) → (a : ℕ) × Holds (prec f) a × (a < overflow f) × HasValue (fin s m e) s a (2 ^ low f)
 unfolding fits
-value-held f s zero e t = (0, record { q = 0; k = 0; few = pow_pos (prec f); is = refl }, pow_pos (low f + suc (emax f)), (refl, ap (λ (x : ℕ). x * 2 ^ low f) (zero-mul (up e)) ∙ zero-mul (2 ^ low f) ∙ sym (zero-mul (down e))))
-value-held f s (suc m) e t = go e (leb→le (down e) (2 ^ low f) (and_r (X && Y) Z (and_l (X && Y && Z) W t))) (ltb→lt (suc m * up e) (2 ^ suc (emax f) * down e) (and_r (X && Y && Z) W t))
+value_held f s zero e t = (0, record { q = 0; k = 0; few = pow_pos (prec f); is = refl }, pow_pos (low f + suc (emax f)), (refl, ap (λ (x : ℕ). x * 2 ^ low f) (zero-mul (up e)) ∙ zero-mul (2 ^ low f) ∙ sym (zero-mul (down e))))
+value_held f s (suc m) e t = go e (leb→le (down e) (2 ^ low f) (and_r (X && Y) Z (and_l (X && Y && Z) W t))) (ltb→lt (suc m * up e) (2 ^ suc (emax f) * down e) (and_r (X && Y && Z) W t))
   where
     X : Bool
     X = eqb (suc m % 2) 1
@@ -55,11 +55,11 @@ leading p g P H =
     ap (λ (x : ℕ). x * 2 ^ k) (ap (λ (x : ℕ). x / 2 ^ k) e ∙ mul-div_cancel (H.q * 2 ^ (H.k - k)) (pow_pos k)) ∙ sym e
 
 -- ---- a value determines the float
-pub same-value : (f : Format) (s : Bool) (a : ℕ) (r v : Float) → T (fits f r) → T (fits f v) → HasValue r s a (2 ^ low f) → HasValue v s a (2 ^ low f) → r ≡ v
-same-value f s a r v R S x y = sym (of_bits-to_bits f r R) ∙ ap (of_bits f) (bits_of f r s a x ∙ sym (bits_of f v s a y)) ∙ of_bits-to_bits f v S
+pub same_value : (f : Format) (s : Bool) (a : ℕ) (r v : Float) → T (fits f r) → T (fits f v) → HasValue r s a (2 ^ low f) → HasValue v s a (2 ^ low f) → r ≡ v
+same_value f s a r v R S x y = sym (of_bits-to_bits f r R) ∙ ap (of_bits f) (bits_of f r s a x ∙ sym (bits_of f v s a y)) ∙ of_bits-to_bits f v S
 
 -- ---- N / D is a units, which the format holds
-pub rounded-exact : (f : Format) (s : Bool) (N D a : ℕ) → 0 < D → Holds (prec f) a → a < overflow f → N * 2 ^ low f ≡ a * D → HasValue (round f s N D) s a (2 ^ low f)
-rounded-exact f s N D a P H h e =
+pub rounded_exact : (f : Format) (s : Bool) (N D a : ℕ) → 0 < D → Holds (prec f) a → a < overflow f → N * 2 ^ low f ≡ a * D → HasValue (round f s N D) s a (2 ^ low f)
+rounded_exact f s N D a P H h e =
     subst (λ (v : Float). HasValue v s a (2 ^ low f)) (sym (round_same f s N D a (2 ^ low f) P (pow_pos (low f)) e))
     (round_exact f s a (2 ^ low f) H.q H.k (pow_pos (low f)) H.few (subst (λ (x : ℕ). x < overflow f) H.is h) (ap (λ (x : ℕ). x * 2 ^ low f) H.is))

@@ -14,56 +14,56 @@ negative (inf s) = s
 negative (fin s m e) = s
 
 -- f64::abs
-unfoldable pub absF : Float → Float
-absF nan = nan
-absF (inf s) = inf false
-absF (fin s m e) = fin false m e
+unfoldable pub abs_f : Float → Float
+abs_f nan = nan
+abs_f (inf s) = inf false
+abs_f (fin s m e) = fin false m e
 
--- f64::isFinite
-unfoldable pub isFinite : Float → Bool
-isFinite nan = false
-isFinite (inf s) = false
-isFinite (fin s m e) = true
+-- f64::is_finite
+unfoldable pub is_finite : Float → Bool
+is_finite nan = false
+is_finite (inf s) = false
+is_finite (fin s m e) = true
 
 -- a.max(b): the other where one is a NaN, and a where they are equal.
-unfoldable pub maxF : Float → Float → Float
-maxF a b = cond (is_nan a) b (cond (lt a b) b a)
+unfoldable pub max_f : Float → Float → Float
+max_f a b = cond (is_nan a) b (cond (lt a b) b a)
 
 -- a.min(b), the same.
-unfoldable pub minF : Float → Float → Float
-minF a b = cond (is_nan a) b (cond (lt b a) b a)
+unfoldable pub min_f : Float → Float → Float
+min_f a b = cond (is_nan a) b (cond (lt b a) b a)
 
 -- x.clamp(lo, hi): a NaN stays. Rust panics where lo is not at most hi; here lo is looked at first.
-unfoldable pub clampF : Float → Float → Float → Float
-clampF x lo hi = cond (lt x lo) lo (cond (lt hi x) hi x)
+unfoldable pub clamp_f : Float → Float → Float → Float
+clamp_f x lo hi = cond (lt x lo) lo (cond (lt hi x) hi x)
 
 -- f64::total_cmp compares the bit patterns, a set sign turning the order of the other bits round. As whole numbers: the pattern, with the
 -- sign's bit turned where it is clear, and every bit turned where it is set. The one NaN comes after every number.
-unfoldable pub totalKey : Float → ℕ
-totalKey x =
+unfoldable pub total_key : Float → ℕ
+total_key x =
     cond (is_nan x) 0xFFFFFFFFFFFFFFFF
     (cond (nat_lt (to_bits binary64 x) 0x8000000000000000)
     (to_bits binary64 x + 0x8000000000000000)
     (0xFFFFFFFFFFFFFFFF - to_bits binary64 x))
 
 -- Rust's Ordering, from how two whole numbers compare.
-abbrev pub orderOf : Ordering → Order
-orderOf Ordering.lt = Less
-orderOf Ordering.eq = Equal
-orderOf Ordering.gt = Greater
+abbrev pub order_of : Ordering → Order
+order_of Ordering.lt = Less
+order_of Ordering.eq = Equal
+order_of Ordering.gt = Greater
 
 -- x is not after y in the order of total_cmp.
-unfoldable pub totalLe : Float → Float → Bool
-unfolding totalKey
-totalLe x y = nat_le (totalKey x) (totalKey y)
+unfoldable pub total_le : Float → Float → Bool
+unfolding total_key
+total_le x y = nat_le (total_key x) (total_key y)
 
 -- f64::total_cmp itself.
-unfoldable pub totalCmp : Float → Float → Order
-unfolding totalKey
-totalCmp x y = orderOf (compare (totalKey x) (totalKey y))
+unfoldable pub total_cmp : Float → Float → Order
+unfolding total_key
+total_cmp x y = order_of (compare (total_key x) (total_key y))
 
 -- The same order without bit patterns: by value, -0 before +0, and the NaN after all.
-unfoldable pub valueLe : Float → Float → Bool
-valueLe x y =
+unfoldable pub value_le : Float → Float → Bool
+value_le x y =
     cond (is_nan y) true
     (cond (is_nan x) false (cond (lt x y) true (cond (eq x y) (negative x || not (negative y)) false)))

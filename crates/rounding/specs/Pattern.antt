@@ -4,9 +4,9 @@ use Rattle.std.specs.Float.{Format}
 use Rattle.std.specs.Float.Ieee.{prec, low, hid, ones}
 
 -- The significand, from the exponent's field and the digits' field of a pattern. h is the weight of the leading digit, which a field of 0 lacks.
-abbrev pub digitsOf : ℕ → ℕ → ℕ → ℕ
-digitsOf h zero t = t
-digitsOf h (suc x) t = h + t
+abbrev pub digits_of : ℕ → ℕ → ℕ → ℕ
+digits_of h zero t = t
+digits_of h (suc x) t = h + t
 
 -- b is the pattern of a finite number above zero in the format f, which has h + 1 digits and the smallest value 2 ^ -l.
 pub record Positive (f : Format) (b h l : ℕ) : Type 0 where

@@ -8,14 +8,14 @@ use Rattle.std.specs.Float.{nan, inf, fin, Format}
 use Rattle.std.specs.Float.Ieee.{prec, low, up, down, size, nearest, units}
 
 -- The largest whole number whose square is at most n, for an n below 4 ^ d: two binary digits of n give one of the root.
-unfoldable pub rootDigits : ℕ → ℕ → ℕ
-rootDigits zero n = 0
-rootDigits (suc d) n = let r = 2 * rootDigits d (n / 4) in cond (nat_le (suc r * suc r) n) (suc r) r
+unfoldable pub root_digits : ℕ → ℕ → ℕ
+root_digits zero n = 0
+root_digits (suc d) n = let r = 2 * root_digits d (n / 4) in cond (nat_le (suc r * suc r) n) (suc r) r
 
 -- The largest whole number whose square is at most n.
-unfoldable pub wholeRoot : ℕ → ℕ
-unfolding rootDigits
-wholeRoot n = rootDigits (size n) n
+unfoldable pub whole_root : ℕ → ℕ
+unfolding root_digits
+whole_root n = root_digits (size n) n
 
 -- A number y of units, rounded to the format f with the sign s. w is the whole part of y, and `o t` says how y compares with t / 2:
 -- the middle between q and q + 1, each times 2 ^ k, is (2 q + 1) * 2 ^ k / 2. `nearest` and `units` are lib.Ieee's.
@@ -27,14 +27,14 @@ place f s w o =
     units f s (nearest q (o ((2 * q + 1) * 2 ^ k))) k
 
 -- The root of num / den. In units of f it is the root of n / den, and it compares with t / 2 as 4 n compares with t * t * den.
-unfoldable pub rootOf : Format → ℕ → ℕ → Float
-unfolding place wholeRoot
-rootOf f num den = let n = num * 4 ^ low f in place f false (wholeRoot (n / den)) (λ t. compare (4 * n) (t * t * den))
+unfoldable pub root_of : Format → ℕ → ℕ → Float
+unfolding place whole_root
+root_of f num den = let n = num * 4 ^ low f in place f false (whole_root (n / den)) (λ t. compare (4 * n) (t * t * den))
 
 -- The square root of a float in the format f. A zero keeps its sign; below zero there is no root.
 unfoldable pub root : Format → Float → Float
-unfolding rootOf
+unfolding root_of
 root f nan = nan
 root f (inf s) = cond s nan (inf false)
 root f (fin s zero e) = fin s zero e
-root f (fin s (suc m) e) = cond s nan (rootOf f (suc m * up e) (down e))
+root f (fin s (suc m) e) = cond s nan (root_of f (suc m * up e) (down e))

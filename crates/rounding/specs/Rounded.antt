@@ -18,15 +18,15 @@ pub record Holds (p a : ℕ) : Type 0 where
   pub is : a ≡ q * 2 ^ k
 
 -- The last of the p leading digits of g.
-abbrev pub lastDigit : ℕ → ℕ → ℕ
-lastDigit p g = g / 2 ^ (size g - p) % 2
+abbrev pub last_digit : ℕ → ℕ → ℕ
+last_digit p g = g / 2 ^ (size g - p) % 2
 
 -- Of the numbers that p digits hold, none is nearer to y than g, and where another is as near, g is the one with the even last digit.
 pub record Nearest (p : ℕ) (Under Over : ℕ → Type 0) (g : ℕ) : Type 0 where
   pub held : Holds p g
   pub larger : (a : ℕ) → Holds p a → g < a → Over (g + a)
   pub smaller : (a : ℕ) → Holds p a → a < g → Under (a + g)
-  pub even : (a : ℕ) → Holds p a → (a ≢ g) → Under (a + g) → Over (a + g) → lastDigit p g ≡ 0
+  pub even : (a : ℕ) → Holds p a → (a ≢ g) → Under (a + g) → Over (a + g) → last_digit p g ≡ 0
 
 -- r is y with the sign s, rounded to the format f: the nearest number of units, or an infinity where that is 2 ^ (emax + 1) or more.
 -- `HasValue r s a b` says that r is the number a / b with the sign s.
@@ -50,7 +50,7 @@ pub record NearestFloat (f : Format) (Under Over : ℕ → Type 0) (s : Bool) (r
   pub smaller : (v : Float) (a : ℕ) → T (fits f v) → HasValue v s a (2 ^ low f) → a < g → Under (a + g)
   pub opposite : (v : Float) (a : ℕ) → T (fits f v) → HasValue v (not s) a (2 ^ low f) → Under (g - a)
   pub even : (v : Float) (a : ℕ) → T (fits f v) → HasValue v s a (2 ^ low f) → (a ≢ g) →
-      Under (a + g) → Over (a + g) → lastDigit (prec f) g ≡ 0
+      Under (a + g) → Over (a + g) → last_digit (prec f) g ≡ 0
 
 -- r is y rounded to the format f, said of floats alone: an infinity exactly from the overflow threshold on, and below it the nearest float.
 pub record RoundedFloat (f : Format) (Under Over : ℕ → Type 0) (s : Bool) (r : Float) : Type 0 where

@@ -1,6 +1,6 @@
 // The methods of Rust's `f64` that the run uses.
 ghost use Rattle.std.specs.Prelude.{◌≡◌, is_nan};
-ghost use Rattle.rounding.specs.Methods.{negative, absF, isFinite, maxF, minF, clampF, totalKey, totalLe, totalCmp};
+ghost use Rattle.rounding.specs.Methods.{negative, abs_f, is_finite, max_f, min_f, clamp_f, total_key, total_le, total_cmp};
 
 // Only a NaN differs from itself.
 pub fn is_nan(x: f64) -> bool
@@ -21,21 +21,21 @@ pub fn is_negative(x: f64) -> bool
 
 // The difference from 0.0 is exact, and gives 0.0 for a zero of either sign.
 pub fn abs(x: f64) -> f64
-    ensures { result ≡ absF x }
+    ensures { result ≡ abs_f x }
 {
     if x <= 0.0 { 0.0 - x } else { x }
 }
 
 // Neither a NaN nor an infinity.
 pub fn is_finite(x: f64) -> bool
-    ensures { result ≡ isFinite x }
+    ensures { result ≡ is_finite x }
 {
     abs(x) < 1.0 / 0.0
 }
 
 // The other where one is a NaN, and a where they are equal.
 pub fn max(a: f64, b: f64) -> f64
-    ensures { result ≡ maxF a b }
+    ensures { result ≡ max_f a b }
 {
     if a != a {
         return b;
@@ -44,7 +44,7 @@ pub fn max(a: f64, b: f64) -> f64
 }
 
 pub fn min(a: f64, b: f64) -> f64
-    ensures { result ≡ minF a b }
+    ensures { result ≡ min_f a b }
 {
     if a != a {
         return b;
@@ -54,7 +54,7 @@ pub fn min(a: f64, b: f64) -> f64
 
 // A NaN stays. lo is looked at first.
 pub fn clamp(x: f64, lo: f64, hi: f64) -> f64
-    ensures { result ≡ clampF x lo hi }
+    ensures { result ≡ clamp_f x lo hi }
 {
     if x < lo {
         return lo;
@@ -64,7 +64,7 @@ pub fn clamp(x: f64, lo: f64, hi: f64) -> f64
 
 // A whole number whose order is that of Rust's total_cmp, with every NaN last.
 pub fn total_key(x: f64) -> u64
-    ensures { result ≡ totalKey x }
+    ensures { result ≡ total_key x }
 {
     if x != x {
         return 0xffff_ffff_ffff_ffff;
@@ -79,7 +79,7 @@ pub fn total_key(x: f64) -> u64
 
 // Whether x is not after y in that order.
 pub fn total_le(x: f64, y: f64) -> bool
-    ensures { result ≡ totalLe x y }
+    ensures { result ≡ total_le x y }
 {
     total_key(x) <= total_key(y)
 }
@@ -93,7 +93,7 @@ pub enum Order {
 
 // Rust's total_cmp, with every NaN last.
 pub fn total_cmp(x: f64, y: f64) -> Order
-    ensures { result ≡ totalCmp x y }
+    ensures { result ≡ total_cmp x y }
 {
     let a = total_key(x);
     let b = total_key(y);

@@ -1,7 +1,7 @@
 // Bit patterns of floats, and the one rounding step of root and narrowing.
 ghost use Rattle.std.specs.Prelude.{◌≡◌, ◌-◌, ◌/◌, ◌%◌, ◌^◌, ◌<◌, min};
 ghost use Rattle.std.specs.Float.Ieee.Nearest.{closest};
-ghost use Rattle.rounding.specs.Pattern.{digitsOf};
+ghost use Rattle.rounding.specs.Pattern.{digits_of};
 
 // n / 2^d to the nearest whole number, a tie to the even one: just under a half is added, and one more where the number below is odd.
 pub(crate) fn nearest(n: u64, d: u64) -> u64
@@ -23,7 +23,7 @@ pub(crate) struct Parts {
 // Taken apart in the format with h + 1 digits. A field of 0 has no leading digit, and counts as a field of 1.
 pub(crate) fn take_apart(b: u64, h: u64) -> Parts
     requires { h < 53 }
-    ensures { (result.digits ≡ digitsOf (2 ^ h) (b / 2 ^ h) (b % 2 ^ h)) × (result.place ≡ b / 2 ^ h - 1) }
+    ensures { (result.digits ≡ digits_of (2 ^ h) (b / 2 ^ h) (b % 2 ^ h)) × (result.place ≡ b / 2 ^ h - 1) }
 {
     let lead = 1u64 << h;
     let field = b >> h;

@@ -1,6 +1,6 @@
 // The root of a whole number: its whole part, and what the square of that leaves.
 ghost use Rattle.std.specs.Prelude.{◌≡◌, ◌+◌, ◌*◌, ◌/◌, ◌^◌, ◌<◌, ◌≤◌, ◌⊎◌};
-ghost use Rattle.rounding.specs.Root.{wholeRoot};
+ghost use Rattle.rounding.specs.Root.{whole_root};
 
 #[derive(Drop)]
 pub(crate) struct Rooted {
@@ -18,7 +18,7 @@ fn below(a: u64, b: u64) -> u64
 // The whole root of the top 16 digits of a, or one more: a cubic in the top 9 digits comes as near at each of their values.
 fn first_root(a: u64) -> u64
     requires { 2 ^ 62 ≤ a }
-    ensures { (wholeRoot (a / 2 ^ 48) ≤ result) × (result ≤ wholeRoot (a / 2 ^ 48) + 1) }
+    ensures { (whole_root (a / 2 ^ 48) ≤ result) × (result ≤ whole_root (a / 2 ^ 48) + 1) }
 {
     let y = 511 - (a >> 55);
     (0x2018_0000 - y * (y * y + 0x8_7000)) >> 21
@@ -26,16 +26,16 @@ fn first_root(a: u64) -> u64
 
 // The whole root of m, or one more, from one of m / 4^b, s: a step of Newton's goes half of the way from s * 2^b to what m is divided by that.
 fn nearer(s: u64, b: u64, m: u64) -> u64
-    requires { (wholeRoot (m / 4 ^ b) ≤ s) × (s ≤ wholeRoot (m / 4 ^ b) + 1)
+    requires { (whole_root (m / 4 ^ b) ≤ s) × (s ≤ whole_root (m / 4 ^ b) + 1)
         × (2 ^ b ≤ 2 * s) × (s ≤ 2 ^ 16) × (2 ≤ b) × (b ≤ 16) }
-    ensures { (wholeRoot m ≤ result) × (result ≤ wholeRoot m + 1) }
+    ensures { (whole_root m ≤ result) × (result ≤ whole_root m + 1) }
 {
     (s << (b - 1)) + (m >> (b + 1)) / s
 }
 
 // The whole root of m, and what its square leaves, from the root or one more.
 fn settled(near: u64, m: u64) -> Rooted
-    requires { (wholeRoot m ≤ near) × (near ≤ wholeRoot m + 1) }
+    requires { (whole_root m ≤ near) × (near ≤ whole_root m + 1) }
     ensures { (result.root * result.root + result.rest ≡ m) × (result.rest ≤ 2 * result.root) }
 {
     let s = near - (near >> 32); // a root is below 2^32, and then a square fits

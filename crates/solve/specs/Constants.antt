@@ -3,16 +3,16 @@ use Rattle.std.specs.Prelude.{Float}
 use Rattle.rounding.specs.Arith.{f64}
 
 -- 1e-12: 01's plane cut, which `tan_project` keeps. In a run the cut is a number of the call (02, CR 2).
-abbrev pub planeCut : Float
-planeCut = f64 0x3D719799812DEA11
+abbrev pub plane_cut : Float
+plane_cut = f64 0x3D719799812DEA11
 
 -- 1e-30: the least magnitude of a pivot, and of a squared offset that counts
 abbrev pub tiny : Float
 tiny = f64 0x39B4484BFEEBC2A0
 
 -- 3.0, CLIP_NSIGMA
-abbrev pub clipNsigma : Float
-clipNsigma = f64 0x4008000000000000
+abbrev pub clip_nsigma : Float
+clip_nsigma = f64 0x4008000000000000
 
 -- 0.5
 abbrev pub half : Float
@@ -23,8 +23,8 @@ abbrev pub two : Float
 two = f64 0x4000000000000000
 
 -- -1.0
-abbrev pub minusOne : Float
-minusOne = f64 0xBFF0000000000000
+abbrev pub minus_one : Float
+minus_one = f64 0xBFF0000000000000
 
 -- f64::INFINITY
 abbrev pub infinity : Float

@@ -30,20 +30,20 @@ symmetric s a0 a1 a2 b0 b1 b2 c0 c1 c2 =
     ∷ []
 
 -- 01: "or with a failed inverse column: infinity on the diagonal, zero elsewhere"
-unfoldable pub fromColumns : Float → Solution → Solution → Solution → List (List Float)
+unfoldable pub from_columns : Float → Solution → Solution → Solution → List (List Float)
 unfolding symmetric unconstrained
-fromColumns s (Solved a0 a1 a2) (Solved b0 b1 b2) (Solved c0 c1 c2) = symmetric s a0 a1 a2 b0 b1 b2 c0 c1 c2
-fromColumns s (Solved a0 a1 a2) (Solved b0 b1 b2) Failed = unconstrained
-fromColumns s (Solved a0 a1 a2) Failed z = unconstrained
-fromColumns s Failed y z = unconstrained
+from_columns s (Solved a0 a1 a2) (Solved b0 b1 b2) (Solved c0 c1 c2) = symmetric s a0 a1 a2 b0 b1 b2 c0 c1 c2
+from_columns s (Solved a0 a1 a2) (Solved b0 b1 b2) Failed = unconstrained
+from_columns s (Solved a0 a1 a2) Failed z = unconstrained
+from_columns s Failed y z = unconstrained
 
 -- `covariance_from_normal`. "Covariance with 2n − 3 below 1": that is n below 2. From 2 ^ 62 on, which no list has, 2n is past the Rust's i64; here
 -- that is unconstrained too.
-unfoldable pub covarianceFromNormal : List (List Float) → Float → ℕ → List (List Float)
-unfolding fromColumns unconstrained solve3x3
-covarianceFromNormal ata sumR2 n =
+unfoldable pub covariance_from_normal : List (List Float) → Float → ℕ → List (List Float)
+unfolding from_columns unconstrained solve3x3
+covariance_from_normal ata sum_r2 n =
     cond (nat_lt n 2 || nat_le (2 ^ 62) n) unconstrained
-    (fromColumns (sumR2 ⊘ of_int binary64 (pos (2 * n - 3)))
+    (from_columns (sum_r2 ⊘ of_int binary64 (pos (2 * n - 3)))
     (solve3x3 ata (one64 ∷ zero64 ∷ zero64 ∷ []))
     (solve3x3 ata (zero64 ∷ one64 ∷ zero64 ∷ []))
     (solve3x3 ata (zero64 ∷ zero64 ∷ one64 ∷ [])))

@@ -2,7 +2,7 @@
 ghost use Rattle.std.specs.Prelude.{◌≡◌, [], ◌∷◌};
 ghost use Rattle.rounding.specs.Arith.{zero64, one64};
 ghost use Rattle.solve.specs.Solve.{solve3x3};
-ghost use Rattle.solve.specs.Covariance.{unconstrained, symmetric, fromColumns, covarianceFromNormal};
+ghost use Rattle.solve.specs.Covariance.{unconstrained, symmetric, from_columns, covariance_from_normal};
 
 use crate::Solution;
 use crate::solve::solve_3x3;
@@ -40,7 +40,7 @@ fn symmetric(
 
 // s times the inverse of a, made symmetric: its columns solve a x = e for each unit vector e.
 fn scaled_inverse(a: [[f64; 3]; 3], s: f64) -> [[f64; 3]; 3]
-    ensures { result ≡ fromColumns s (solve3x3 a (one64 ∷ zero64 ∷ zero64 ∷ [])) (solve3x3 a (zero64 ∷ one64 ∷ zero64 ∷ []))
+    ensures { result ≡ from_columns s (solve3x3 a (one64 ∷ zero64 ∷ zero64 ∷ [])) (solve3x3 a (zero64 ∷ one64 ∷ zero64 ∷ []))
         (solve3x3 a (zero64 ∷ zero64 ∷ one64 ∷ [])) }
 {
     let x = solve_3x3(a, [1.0, 0.0, 0.0]);
@@ -60,7 +60,7 @@ fn scaled_inverse(a: [[f64; 3]; 3], s: f64) -> [[f64; 3]; 3]
 
 // The covariance of theta, xi and eta, over n_matches spots with two residuals each, whose squares sum to sum_r2.
 pub fn covariance_from_normal(ata: [[f64; 3]; 3], sum_r2: f64, n_matches: usize) -> [[f64; 3]; 3]
-    ensures { result ≡ covarianceFromNormal ata sum_r2 n_matches }
+    ensures { result ≡ covariance_from_normal ata sum_r2 n_matches }
 {
     if n_matches < 2 {
         return unconstrained();

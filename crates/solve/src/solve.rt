@@ -1,6 +1,6 @@
 // Gaussian elimination with partial pivoting, for three equations. The right side stands beside the matrix as a fourth column.
 ghost use Rattle.std.specs.Prelude.{◌≡◌, ◌<◌};
-ghost use Rattle.solve.specs.Solve.{beside, better, pivotOf, usable, swapped, minusFrom, reduced, eliminated, ifFinite, divides, substituted, solve3x3};
+ghost use Rattle.solve.specs.Solve.{beside, better, pivot_of, usable, swapped, minus_from, reduced, eliminated, if_finite, divides, substituted, solve3x3};
 
 use crate::{Pivot, Solution};
 use rounding::{abs, is_finite};
@@ -33,7 +33,7 @@ fn better(p: Pivot, i: usize, v: f64) -> Pivot
 // The largest magnitude of a column from the diagonal down.
 fn pivot_of(m: [[f64; 4]; 3], col: usize) -> Pivot
     requires { col < 3 }
-    ensures { (result ≡ pivotOf m col) × (result.row < 3) }
+    ensures { (result ≡ pivot_of m col) × (result.row < 3) }
 {
     let mut p = Pivot {
         row: col,
@@ -70,7 +70,7 @@ fn swapped(m: [[f64; 4]; 3], i: usize, j: usize) -> [[f64; 4]; 3]
 
 // A row less f times the pivot's, from the column on.
 fn minus_from(col: usize, f: f64, r: [f64; 4], pivot: [f64; 4]) -> [f64; 4]
-    ensures { result ≡ minusFrom col f r pivot }
+    ensures { result ≡ minus_from col f r pivot }
 {
     let mut x = r;
     let mut j = col;
@@ -106,7 +106,7 @@ fn eliminated(m: [[f64; 4]; 3], col: usize) -> [[f64; 4]; 3]
 }
 
 fn if_finite(x: f64, y: f64, z: f64) -> Solution
-    ensures { result ≡ ifFinite x y z }
+    ensures { result ≡ if_finite x y z }
 {
     if is_finite(x) {
         if is_finite(y) {

@@ -19,37 +19,37 @@ module _ {A : Type 0} (f : A → A) where
   front_at (suc i) [] d = refl
   front_at (suc i) (x ∷ l) d = front_at i l d
 
-  front-suc : (i : ℕ) (l : List A) (d : A) → i < length l → set (front i l) i (f (get_or l i d)) ≡ front (suc i) l
+  front_suc : (i : ℕ) (l : List A) (d : A) → i < length l → set (front i l) i (f (get_or l i d)) ≡ front (suc i) l
   unfolding front
-  front-suc i [] d h = absurd (omega arith)
-  front-suc zero (x ∷ l) d h = refl
-  front-suc (suc i) (x ∷ l) d h = ap (λ (r : List A). f x ∷ r) (front-suc i l d (omega arith))
+  front_suc i [] d h = absurd (omega arith)
+  front_suc zero (x ∷ l) d h = refl
+  front_suc (suc i) (x ∷ l) d h = ap (λ (r : List A). f x ∷ r) (front_suc i l d (omega arith))
 
-  front-all : (i : ℕ) (l : List A) → length l ≤ i → front i l ≡ map f l
+  front_all : (i : ℕ) (l : List A) → length l ≤ i → front i l ≡ map f l
   unfolding front
-  front-all zero [] h = refl
-  front-all zero (x ∷ l) h = absurd (omega arith)
-  front-all (suc i) [] h = refl
-  front-all (suc i) (x ∷ l) h = ap (λ (r : List A). f x ∷ r) (front-all i l (omega arith))
+  front_all zero [] h = refl
+  front_all zero (x ∷ l) h = absurd (omega arith)
+  front_all (suc i) [] h = refl
+  front_all (suc i) (x ∷ l) h = ap (λ (r : List A). f x ∷ r) (front_all i l (omega arith))
 
   pub record Fronted (d l : List A) (i : ℕ) : Type 0 where
     pub within : i ≤ length d
     pub long : length l ≡ length d
     pub is : l ≡ front i d
 
-  pub fronted-none : (d : List A) → Fronted d d 0
+  pub fronted_none : (d : List A) → Fronted d d 0
   unfolding front
-  fronted-none d = record { within = omega arith; long = refl; is = refl }
+  fronted_none d = record { within = omega arith; long = refl; is = refl }
 
-  pub fronted-more : (d l : List A) (i : ℕ) (z a : A) → Fronted d l i → i < length l → a ≡ f (get_or l i z) → Fronted d (set l i a) (i + 1)
-  fronted-more d l i z a F h e =
+  pub fronted_more : (d l : List A) (i : ℕ) (z a : A) → Fronted d l i → i < length l → a ≡ f (get_or l i z) → Fronted d (set l i a) (i + 1)
+  fronted_more d l i z a F h e =
       let long = F.long in
       let there : get_or l i z ≡ get_or d i z = ap (λ (m : List A). get_or m i z) F.is ∙ front_at i d z in
       record {
         within = omega arith;
         long = length-set l i a ∙ long;
-        is = rw (e, there, F.is, add-one) (front-suc i d z (omega arith));
+        is = rw (e, there, F.is, add-one) (front_suc i d z (omega arith));
       }
 
-  pub fronted-all : (d l : List A) (i : ℕ) → Fronted d l i → length l ≤ i → l ≡ map f d
-  fronted-all d l i F h = F.is ∙ front-all i d (omega (arith, F.long))
+  pub fronted_all : (d l : List A) (i : ℕ) → Fronted d l i → length l ≤ i → l ≡ map f d
+  fronted_all d l i F h = F.is ∙ front_all i d (omega (arith, F.long))

@@ -5,31 +5,31 @@ use lib.Seq.{slice, length-slice}
 use lib.Ieee.{Float}
 use Rattle.rounding.specs.Arith.{◌⊗◌}
 use Rattle.pairs.specs.Pairs.{pairs}
-use Rattle.matching.specs.Merge.{notAfter}
+use Rattle.matching.specs.Merge.{not_after}
 use Rattle.matching.specs.Comparisons.{comparisons}
-use Rattle.matching.specs.Greedy.{Match, flat, matchesOf}
+use Rattle.matching.specs.Greedy.{Match, flat, matches_of}
 use Rattle.pairs.specs.Candidates.{capacity}
 use Rattle.fit.specs.declared.Pose.{Pose}
 use Rattle.entry.specs.declared.Settings.{Settings}
-use Rattle.entry.specs.Entry.{fixedOf}
+use Rattle.entry.specs.Entry.{fixed_of}
 use Rattle.query.specs.Query.{Cache, Prediction}
-use Rattle.wcs_refine.specs.Associate.{laid, renamed, sameMatches}
-use Rattle.wcs_refine.specs.Listing.{renamedBy}
+use Rattle.wcs_refine.specs.Associate.{laid, renamed, same_matches}
+use Rattle.wcs_refine.specs.Listing.{renamed_by}
 use Rattle.wcs_refine.specs.Round.{State, Next, go, done, refuse, settled, associated, compared}
-use Rattle.wcs_refine.specs.Keeping.{cacheOf, heldCache, heldMatches, heldState, withUsed, nextOf, Matchable, Fits, Predicted, AssociatedTo}
+use Rattle.wcs_refine.specs.Keeping.{cache_of, held_cache, held_matches, held_state, with_used, next_of, Matchable, Fits, Predicted, AssociatedTo}
 use Rattle.wcs_refine.specs.Comparing.{Kept, Comparable, Compared, NewAt, FoundTo}
 use Rattle.wcs_refine.specs.declared.associating.Tally.{Tally}
 use Rattle.query.specs.declared.Held.{Held}
 use Rattle.wcs_refine.specs.declared.keeping.Verdict.TheVariants.{GoOn, Done, Refused}
-use Rattle.wcs_refine.proofs.Meant.{renamed-is}
-use Rattle.wcs_refine.proofs.NewMatches.{lone-matches, renamed-many}
+use Rattle.wcs_refine.proofs.Meant.{renamed_is}
+use Rattle.wcs_refine.proofs.NewMatches.{lone_matches, renamed_many}
 use Rattle.wcs_refine.proofs.FindSteps.{slice_front}
 use Rattle.wcs_refine.proofs.TableSteps.{kept_back}
 
 -- ---- parts that stay
 
-slice-at-place : (a e j : ℕ) (l : List ℕ) → a + j < e → get_or (slice a e l) j 0 ≡ get_or l (a + j) 0
-slice-at-place a e j l h = get_or-drop a (take e l) j 0 ∙ get_or-take e l (a + j) 0 h
+slice_at_place : (a e j : ℕ) (l : List ℕ) → a + j < e → get_or (slice a e l) j 0 ≡ get_or l (a + j) 0
+slice_at_place a e j l h = get_or-drop a (take e l) j 0 ∙ get_or-take e l (a + j) 0 h
 
 -- a part behind the table
 slice_kept : (base n a e : ℕ) (m o : List ℕ) → Kept base n m o → base + n ≤ a → e ≤ length o → slice a e m ≡ slice a e o
@@ -38,30 +38,30 @@ slice_kept base n a e m o k h fits =
     ext_get_or 0 (slice a e m) (slice a e o) (length-slice a e m long ∙ sym (length-slice a e o fits))
     (λ j p.
     let q : a + j < e = omega (arith, length-slice a e m long) in
-    slice-at-place a e j m q ∙ kept_back base n m o k (a + j) (omega arith) ∙ sym (slice-at-place a e j o q))
+    slice_at_place a e j m q ∙ kept_back base n m o k (a + j) (omega arith) ∙ sym (slice_at_place a e j o q))
 
 -- a part behind what was brought to the front
-slice-behind : (a e : ℕ) (x l : List ℕ) (k : ℕ) → length x ≡ k → k ≤ a → a ≤ e → e ≤ length l → slice a e (x ++ drop k l) ≡ slice a e l
-slice-behind a e x l k s h low fits =
+slice_behind : (a e : ℕ) (x l : List ℕ) (k : ℕ) → length x ≡ k → k ≤ a → a ≤ e → e ≤ length l → slice a e (x ++ drop k l) ≡ slice a e l
+slice_behind a e x l k s h low fits =
     let long : e ≤ length (x ++ drop k l) = omega (arith, length-append x (drop k l), length-drop k l) in
     ext_get_or 0 (slice a e (x ++ drop k l)) (slice a e l) (length-slice a e (x ++ drop k l) long ∙ sym (length-slice a e l fits))
     (λ j p.
     let q : a + j < e = omega (arith, length-slice a e (x ++ drop k l) long) in
     let u : a + j ≡ length x + (a + j - k) = omega arith in
     let v : k + (a + j - k) ≡ a + j = omega arith in
-    slice-at-place a e j (x ++ drop k l) q ∙ ap (λ (i : ℕ). get_or (x ++ drop k l) i 0) u ∙ get_or-append-add x (drop k l) (a + j - k) 0
-    ∙ get_or-drop k l (a + j - k) 0 ∙ ap (λ (i : ℕ). get_or l i 0) v ∙ sym (slice-at-place a e j l q))
+    slice_at_place a e j (x ++ drop k l) q ∙ ap (λ (i : ℕ). get_or (x ++ drop k l) i 0) u ∙ get_or-append-add x (drop k l) (a + j - k) 0
+    ∙ get_or-drop k l (a + j - k) 0 ∙ ap (λ (i : ℕ). get_or l i 0) v ∙ sym (slice_at_place a e j l q))
 
-state-of : {p : Pose} {ms ms' : List ℕ} {c c' : Cache} → ms ≡ ms' → c ≡ c' → ◌≡◌ {A = State} (record { pose = p; matches = ms; cache = c }) (record { pose = p; matches = ms'; cache = c' })
-state-of u v = cc
+state_of : {p : Pose} {ms ms' : List ℕ} {c c' : Cache} → ms ≡ ms' → c ≡ c' → ◌≡◌ {A = State} (record { pose = p; matches = ms; cache = c }) (record { pose = p; matches = ms'; cache = c' })
+state_of u v = cc
 
-matches-same : (n : ℕ) (h : Held) (m o : List ℕ) → h.used ≤ n → take (4 * n) m ≡ take (4 * n) o → heldMatches h m ≡ heldMatches h o
-matches-same n h m o u e =
+matches_same : (n : ℕ) (h : Held) (m o : List ℕ) → h.used ≤ n → take (4 * n) m ≡ take (4 * n) o → held_matches h m ≡ held_matches h o
+matches_same n h m o u e =
     let p : 2 * h.used ≤ 4 * n = omega arith in
     sym (take-take (2 * h.used) (4 * n) m p) ∙ ap (take (2 * h.used)) e ∙ take-take (2 * h.used) (4 * n) o p
 
-cache-same : (n : ℕ) (h : Held) (m o : List ℕ) → h.cached ≤ n → take (4 * n) m ≡ take (4 * n) o → heldCache n h m ≡ heldCache n h o
-cache-same n h m o u e = ap (cacheOf h.filled h.boresight h.theta) (slice_front (2 * n) (2 * n + h.cached) (4 * n) m o (omega arith) e)
+cache_same : (n : ℕ) (h : Held) (m o : List ℕ) → h.cached ≤ n → take (4 * n) m ≡ take (4 * n) o → held_cache n h m ≡ held_cache n h o
+cache_same n h m o u e = ap (cache_of h.filled h.boresight h.theta) (slice_front (2 * n) (2 * n + h.cached) (4 * n) m o (omega arith) e)
 
 -- ---- what the new matches are taken for
 
@@ -76,20 +76,20 @@ module _ (p : Pose) (ms : List ℕ) (c : Cache) (new : List ℕ) where
   and_none true = refl
   and_none false = refl
 
-  settled-few : length new / 2 < 4 → done stays ≡ settled p ms c new
+  settled_few : length new / 2 < 4 → done stays ≡ settled p ms c new
   unfolding settled
-  settled-few h = sym (ap (λ (b : Bool). cond (b && not (sameMatches new ms)) (go goes) (done stays)) (lt-leb 4 (length new / 2) h))
+  settled_few h = sym (ap (λ (b : Bool). cond (b && not (same_matches new ms)) (go goes) (done stays)) (lt-leb 4 (length new / 2) h))
 
-  settled_same : sameMatches new ms ≡ true → done stays ≡ settled p ms c new
+  settled_same : same_matches new ms ≡ true → done stays ≡ settled p ms c new
   unfolding settled
   settled_same e =
       sym
       (ap (λ (b : Bool). cond (leb 4 (length new / 2) && not b) (go goes) (done stays)) e
       ∙ ap (λ (b : Bool). cond b (go goes) (done stays)) (and_none (leb 4 (length new / 2))))
 
-  settled-new : 4 ≤ length new / 2 → sameMatches new ms ≡ false → go goes ≡ settled p ms c new
+  settled_new : 4 ≤ length new / 2 → same_matches new ms ≡ false → go goes ≡ settled p ms c new
   unfolding settled
-  settled-new h e =
+  settled_new h e =
       sym
       (ap (λ (b : Bool). cond (leb 4 (length new / 2) && not b) (go goes) (done stays)) e
       ∙ ap (λ (b : Bool). cond (b && true) (go goes) (done stays)) (le-leb 4 (length new / 2) h))
@@ -103,47 +103,47 @@ module _ (k : Settings) (n q : ℕ) (spots floats d : List Float) (ix before : L
   points = slice (2 * n) (2 * n + 2 * q) floats
 
   abbrev found : List Match
-  found = matchesOf spots k.limit points (r ⊗ r)
+  found = matches_of spots k.limit points (r ⊗ r)
 
   abbrev new : List ℕ
-  new = renamedBy (slice (3 * n) (3 * n + q) before) (flat found)
+  new = renamed_by (slice (3 * n) (3 * n + q) before) (flat found)
 
   abbrev wanted : List Prediction → Next
-  wanted qs = associated (fixedOf k) spots h.pose (heldMatches h before) (heldCache n h before) r qs
+  wanted qs = associated (fixed_of k) spots h.pose (held_matches h before) (held_cache n h before) r qs
 
-  over-is : (qs : List Prediction) → Predicted n q before floats qs → ltb k.capacity (length (pairs spots k.limit (laid qs) (r ⊗ r))) ≡ f.full
-  over-is qs p =
+  over_is : (qs : List Prediction) → Predicted n q before floats qs → ltb k.capacity (length (pairs spots k.limit (laid qs) (r ⊗ r))) ≡ f.full
+  over_is qs p =
       ap (λ (m : ℕ). ltb m (length (pairs spots k.limit (laid qs) (r ⊗ r)))) g.capacity
       ∙ ap (λ (l : List Float). ltb (capacity d ix) (length (pairs spots k.limit l (r ⊗ r)))) p.points ∙ sym w.full
 
-  new_is : (qs : List Prediction) → Predicted n q before floats qs → renamed qs (matchesOf spots k.limit (laid qs) (r ⊗ r)) ≡ new
+  new_is : (qs : List Prediction) → Predicted n q before floats qs → renamed qs (matches_of spots k.limit (laid qs) (r ⊗ r)) ≡ new
   new_is qs p =
-      ap (λ (l : List Float). renamed qs (matchesOf spots k.limit l (r ⊗ r))) p.points ∙ sym (renamed-is qs found)
-      ∙ ap (λ (l : List ℕ). renamedBy l (flat found)) p.ids
+      ap (λ (l : List Float). renamed qs (matches_of spots k.limit l (r ⊗ r))) p.points ∙ sym (renamed_is qs found)
+      ∙ ap (λ (l : List ℕ). renamed_by l (flat found)) p.ids
 
-  wanted-is : (qs : List Prediction) → Predicted n q before floats qs → (b : Bool) → f.full ≡ b
-      → cond b (refuse 13) (settled h.pose (heldMatches h before) (heldCache n h before) new) ≡ wanted qs
+  wanted_is : (qs : List Prediction) → Predicted n q before floats qs → (b : Bool) → f.full ≡ b
+      → cond b (refuse 13) (settled h.pose (held_matches h before) (held_cache n h before) new) ≡ wanted qs
   unfolding associated
-  wanted-is qs p b e =
+  wanted_is qs p b e =
       sym
-      (ap (λ (x : Bool). cond x (refuse 13) (settled h.pose (heldMatches h before) (heldCache n h before) (renamed qs (matchesOf spots k.limit (laid qs) (r ⊗ r)))))
-      (over-is qs p ∙ e)
-      ∙ ap (λ (l : List ℕ). cond b (refuse 13) (settled h.pose (heldMatches h before) (heldCache n h before) l)) (new_is qs p))
+      (ap (λ (x : Bool). cond x (refuse 13) (settled h.pose (held_matches h before) (held_cache n h before) (renamed qs (matches_of spots k.limit (laid qs) (r ⊗ r)))))
+      (over_is qs p ∙ e)
+      ∙ ap (λ (l : List ℕ). cond b (refuse 13) (settled h.pose (held_matches h before) (held_cache n h before) l)) (new_is qs p))
 
   -- the comparisons on the predictions
-  compared-is : (qs : List Prediction) → Predicted n q before floats qs → f.comparisons ≡ compared (fixedOf k) spots r qs
+  compared_is : (qs : List Prediction) → Predicted n q before floats qs → f.comparisons ≡ compared (fixed_of k) spots r qs
   unfolding compared
-  compared-is qs p =
-      w.comparisons ∙ ap (λ (l : List Float). cond f.full 0 (comparisons notAfter (pairs spots k.limit l (r ⊗ r)))) (sym p.points)
-      ∙ ap (λ (b : Bool). cond b 0 (comparisons notAfter (pairs spots k.limit (laid qs) (r ⊗ r)))) (sym (over-is qs p))
+  compared_is qs p =
+      w.comparisons ∙ ap (λ (l : List Float). cond f.full 0 (comparisons not_after (pairs spots k.limit l (r ⊗ r)))) (sym p.points)
+      ∙ ap (λ (b : Bool). cond b 0 (comparisons not_after (pairs spots k.limit (laid qs) (r ⊗ r)))) (sym (over_is qs p))
 
   pub refused : {last : List ℕ} → f.full ≡ true
       → AssociatedTo k n spots h r q before floats last (record { held = h; verdict = Refused 13; comparisons = 0 })
-  unfolding nextOf
+  unfolding next_of
   refused e = record {
-    next = λ qs p. wanted-is qs p true e;
+    next = λ qs p. wanted_is qs p true e;
     comparisons = λ qs p.
-        sym (w.comparisons ∙ ap (λ (b : Bool). cond b 0 (comparisons notAfter (pairs spots k.limit points (r ⊗ r)))) e) ∙ compared-is qs p;
+        sym (w.comparisons ∙ ap (λ (b : Bool). cond b 0 (comparisons not_after (pairs spots k.limit points (r ⊗ r)))) e) ∙ compared_is qs p;
     fits = fits;
   }
 
@@ -151,47 +151,47 @@ module _ (k : Settings) (n q : ℕ) (spots floats d : List Float) (ix before : L
     abbrev at : NewAt n f.within f.count new before after
     at = (w.found e).1
 
-    new-many : length new ≡ 2 * f.count
-    new-many = omega (arith, renamed-many (slice (3 * n) (3 * n + q) before) found, (w.found e).0)
+    new_many : length new ≡ 2 * f.count
+    new_many = omega (arith, renamed_many (slice (3 * n) (3 * n + q) before) found, (w.found e).0)
 
     -- the state as it came
     stayed : {last : List ℕ} → take (4 * n) last ≡ take (4 * n) before
-        → done (heldState n h before) ≡ settled h.pose (heldMatches h before) (heldCache n h before) new
+        → done (held_state n h before) ≡ settled h.pose (held_matches h before) (held_cache n h before) new
         → AssociatedTo k n spots h r q before floats last (record { held = h; verdict = Done; comparisons = f.comparisons })
-    unfolding nextOf
+    unfolding next_of
     stayed {last} same x = record {
       next = λ qs p.
-          ap (λ (s : State). done s) (state-of (matches-same n h last before fits.used same) (cache-same n h last before (omega (arith, fits.cached)) same))
-          ∙ x ∙ wanted-is qs p false e;
-      comparisons = compared-is;
+          ap (λ (s : State). done s) (state_of (matches_same n h last before fits.used same) (cache_same n h last before (omega (arith, fits.cached)) same))
+          ∙ x ∙ wanted_is qs p false e;
+      comparisons = compared_is;
       fits = fits;
     }
 
     pub too_few : f.count < 4 → AssociatedTo k n spots h r q before floats after (record { held = h; verdict = Done; comparisons = f.comparisons })
-    too_few x = stayed at.front (settled-few h.pose (heldMatches h before) (heldCache n h before) new (omega (arith, new-many)))
+    too_few x = stayed at.front (settled_few h.pose (held_matches h before) (held_cache n h before) new (omega (arith, new_many)))
 
-    pub can-compare : Comparable (4 * n) f.within (8 * n) f.count h.used after
-    can-compare = record {
+    pub can_compare : Comparable (4 * n) f.within (8 * n) f.count h.used after
+    can_compare = record {
       places = record {
         present = omega (arith, fits.used);
         table = omega (arith, w.within, g.room);
         fits = omega (arith, at.room, at.long, g.many);
       };
       zeros = at.zeros;
-      lone = rw (at.list, w.within) (lone-matches spots k.limit points (r ⊗ r) (slice (3 * n) (3 * n + q) before));
+      lone = rw (at.list, w.within) (lone_matches spots k.limit points (r ⊗ r) (slice (3 * n) (3 * n + q) before));
     }
 
     module _ {m : List ℕ} {b : Bool} (x : Compared (4 * n) f.within (8 * n) f.count h.used m after b) where
-      answer : b ≡ sameMatches new (heldMatches h before)
+      answer : b ≡ same_matches new (held_matches h before)
       answer =
-          x.answer ∙ ap (λ (l : List ℕ). sameMatches l (take (2 * h.used) after)) at.list
-          ∙ ap (sameMatches new) (matches-same n h after before fits.used at.front)
+          x.answer ∙ ap (λ (l : List ℕ). same_matches l (take (2 * h.used) after)) at.list
+          ∙ ap (same_matches new) (matches_same n h after before fits.used at.front)
 
       front : take (4 * n) m ≡ take (4 * n) before
       front = x.kept.front ∙ at.front
 
       pub not_new : b ≡ true → AssociatedTo k n spots h r q before floats m (record { held = h; verdict = Done; comparisons = f.comparisons })
-      not_new y = stayed front (settled_same h.pose (heldMatches h before) (heldCache n h before) new (sym answer ∙ y))
+      not_new y = stayed front (settled_same h.pose (held_matches h before) (held_cache n h before) new (sym answer ∙ y))
 
       there : slice (8 * n) (8 * n + 2 * f.count) m ≡ new
       there =
@@ -199,22 +199,22 @@ module _ (k : Settings) (n q : ℕ) (spots floats d : List Float) (ix before : L
           ∙ at.list
 
       pub taken : {last : List ℕ} {next : Held} → b ≡ false → 4 ≤ f.count → last ≡ slice (8 * n) (8 * n + 2 * f.count) m ++ drop (2 * f.count) m
-          → next ≡ withUsed h f.count
+          → next ≡ with_used h f.count
           → AssociatedTo k n spots h r q before floats last (record { held = next; verdict = GoOn; comparisons = f.comparisons })
-      unfolding nextOf
+      unfolding next_of
       taken {last} {next} y z brought is =
           let now : last ≡ new ++ drop (2 * f.count) m = brought ∙ ap (λ (l : List ℕ). l ++ drop (2 * f.count) m) there in
-          let ms : take (2 * f.count) last ≡ new = ap (take (2 * f.count)) now ∙ take_at new (drop (2 * f.count) m) (2 * f.count) new-many in
+          let ms : take (2 * f.count) last ≡ new = ap (take (2 * f.count)) now ∙ take_at new (drop (2 * f.count) m) (2 * f.count) new_many in
           let part : slice (2 * n) (2 * n + h.cached) last ≡ slice (2 * n) (2 * n + h.cached) before =
           ap (slice (2 * n) (2 * n + h.cached)) now
-          ∙ slice-behind (2 * n) (2 * n + h.cached) new m (2 * f.count) new-many (omega (arith, at.room)) (omega arith)
+          ∙ slice_behind (2 * n) (2 * n + h.cached) new m (2 * f.count) new_many (omega (arith, at.room)) (omega arith)
           (omega (arith, fits.cached, at.long, g.many, x.kept.long))
           ∙ slice_front (2 * n) (2 * n + h.cached) (4 * n) m before (omega (arith, fits.cached)) front in
           subst (λ (s : Held). AssociatedTo k n spots h r q before floats last (record { held = s; verdict = GoOn; comparisons = f.comparisons })) (sym is)
           (record {
             next = λ qs p.
-                ap (λ (s : State). go s) (state-of ms (ap (cacheOf h.filled h.boresight h.theta) part))
-                ∙ settled-new h.pose (heldMatches h before) (heldCache n h before) new (omega (arith, new-many)) (sym answer ∙ y) ∙ wanted-is qs p false e;
-            comparisons = compared-is;
+                ap (λ (s : State). go s) (state_of ms (ap (cache_of h.filled h.boresight h.theta) part))
+                ∙ settled_new h.pose (held_matches h before) (held_cache n h before) new (omega (arith, new_many)) (sym answer ∙ y) ∙ wanted_is qs p false e;
+            comparisons = compared_is;
             fits = record { used = at.room; cached = fits.cached };
           })

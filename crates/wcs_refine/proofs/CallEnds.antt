@@ -5,26 +5,26 @@ use Rattle.rounding.specs.Arith.{zero64}
 use Rattle.fit.specs.Rows.{rows}
 use Rattle.fit.specs.declared.Pose.{Pose}
 use Rattle.pairs.specs.Candidates.{capacity}
-use Rattle.entry.specs.Arguments.{Call, Given, Lent, spotCount, matchCount, directionCount, total, resultPlaces}
+use Rattle.entry.specs.Arguments.{Call, Given, Lent, spot_count, match_count, direction_count, total, result_places}
 use Rattle.entry.specs.Check.{refusal}
 use Rattle.entry.specs.Fixed.{Fixed, fixed}
-use Rattle.entry.specs.Entry.{fixedOf}
+use Rattle.entry.specs.Entry.{fixed_of}
 use Rattle.entry.specs.declared.Settings.{Settings}
 use Rattle.query.specs.Query.{Cache, empty}
 use Rattle.lists.specs.Fronted.{fronted}
 use Rattle.wcs_refine.specs.Round.{State, Ending, Run, loop}
 use Rattle.wcs_refine.specs.Closing.{Closed, unsound, fine, cleaned, Report, reported}
-use Rattle.wcs_refine.specs.Cleaning.{closedOf, CleanedTo, reportOf}
-use Rattle.wcs_refine.specs.Keeping.{cacheOf, heldState, Ready, Fits, endingOf, RanTo}
-use Rattle.wcs_refine.specs.Call.{Answer, no, ok, start, runOf, closed, finished, answerAfter, answer, cleared, left, outcome}
-use Rattle.wcs_refine.specs.Returned.{refusedWith, accepted, valuesOf, Returned, returned, lists, Answers}
-use Rattle.wcs_refine.specs.Ending.{concluded, resultAfter, Answered}
+use Rattle.wcs_refine.specs.Cleaning.{closed_of, CleanedTo, report_of}
+use Rattle.wcs_refine.specs.Keeping.{cache_of, held_state, Ready, Fits, ending_of, RanTo}
+use Rattle.wcs_refine.specs.Call.{Answer, no, ok, start, run_of, closed, finished, answer_after, answer, cleared, left, outcome}
+use Rattle.wcs_refine.specs.Returned.{refused_with, accepted, values_of, Returned, returned, lists, Answers}
+use Rattle.wcs_refine.specs.Ending.{concluded, result_after, Answered}
 use Rattle.wcs_refine.specs.declared.WcsRefineResult.{WcsRefineResult}
 use Rattle.wcs_refine.specs.declared.cleaning.Cleaned.{Cleaned}
 use Rattle.wcs_refine.specs.declared.reporting.Numbers.{Numbers}
 use Rattle.query.specs.declared.Held.{Held}
 use Rattle.wcs_refine.specs.declared.rounds.Ran.{Ran}
-use Rattle.wcs_refine.proofs.LoopEnds.{Ends, loop-ends}
+use Rattle.wcs_refine.proofs.LoopEnds.{Ends, loop_ends}
 use Rattle.wcs_refine.proofs.CallBounds.{passed}
 
 -- ---- the start
@@ -32,10 +32,10 @@ use Rattle.wcs_refine.proofs.CallBounds.{passed}
 abbrev state : Pose → List ℕ → Cache → State
 state p ms c = record { pose = p; matches = ms; cache = c }
 
-pub begin-state : (ms l after : List ℕ) (p q : Pose) → after ≡ fronted ms l → length ms % 2 ≡ 0 → p ≡ q → (b : List Float) (t : Float) (x : List ℕ)
-    → state p (take (2 * (length ms / 2)) after) (cacheOf false b t x) ≡ state q ms empty
-unfolding cacheOf
-begin-state ms l after p q e even f b t x =
+pub begin_state : (ms l after : List ℕ) (p q : Pose) → after ≡ fronted ms l → length ms % 2 ≡ 0 → p ≡ q → (b : List Float) (t : Float) (x : List ℕ)
+    → state p (take (2 * (length ms / 2)) after) (cache_of false b t x) ≡ state q ms empty
+unfolding cache_of
+begin_state ms l after p q e even f b t x =
     let n : length ms ≡ 2 * (length ms / 2) = omega arith in
     ap (λ (y : Pose). state y (take (2 * (length ms / 2)) after) empty) f
     ∙ ap (λ (y : List ℕ). state q y empty) (ap (take (2 * (length ms / 2))) e ∙ take_at ms (drop (length ms) l) (2 * (length ms / 2)) n)
@@ -45,61 +45,61 @@ begin-state ms l after p q e even f b t x =
 module _ (k : Settings) (ss ds : List Float) (p : Pose) (used : ℕ) (before after l : List ℕ) (r : Cleaned) (rounds passes queries comparisons : ℕ)
     (d : CleanedTo k.cut ss ds p used before after r) where
   abbrev Closes : List ℕ → WcsRefineResult → Type 0
-  Closes out v = Answered (concluded (fixedOf k) ss ds (cleaned (fixedOf k) ss ds 3 p (take (2 * used) before)) rounds passes queries comparisons) l out v
+  Closes out v = Answered (concluded (fixed_of k) ss ds (cleaned (fixed_of k) ss ds 3 p (take (2 * used) before)) rounds passes queries comparisons) l out v
 
-  closes : {x : Closed} → closedOf r after ≡ x → {out : List ℕ} {v : WcsRefineResult}
-      → Answered (concluded (fixedOf k) ss ds x rounds passes queries comparisons) l out v → Closes out v
+  closes : {x : Closed} → closed_of r after ≡ x → {out : List ℕ} {v : WcsRefineResult}
+      → Answered (concluded (fixed_of k) ss ds x rounds passes queries comparisons) l out v → Closes out v
   closes e {out} {v} a =
-      subst (λ (y : Closed). Answered (concluded (fixedOf k) ss ds y rounds passes queries comparisons) l out v) (sym e ∙ d.closed (fixedOf k) refl) a
+      subst (λ (y : Closed). Answered (concluded (fixed_of k) ss ds y rounds passes queries comparisons) l out v) (sym e ∙ d.closed (fixed_of k) refl) a
 
-  pub closes-unsound : r.fine ≡ false → {v : WcsRefineResult} → v ≡ refusedWith 12 → Closes l v
-  unfolding concluded valuesOf resultAfter
-  closes-unsound f e =
+  pub closes_unsound : r.fine ≡ false → {v : WcsRefineResult} → v ≡ refused_with 12 → Closes l v
+  unfolding concluded values_of result_after
+  closes_unsound f e =
       closes {x = unsound} (ap (λ (b : Bool). cond b (fine r.pose (take (2 * r.used) after)) unsound) f) (record { values = e; list = refl })
 
   -- of the first j numbers, which are the matches that are left, the report and the front of the result list
   module _ (j : ℕ) (x : Numbers) {v : WcsRefineResult} {out : List ℕ} (is : j ≡ 2 * r.used) (long : length after ≡ length before) (fits : 2 * used ≤ length before)
-      (w : reportOf x r.pose (take j after) ≡ reported (fixedOf k) r.pose (take j after) (rows ss ds (take j after)))
-      (e : (ms : List ℕ) → length ms / 2 ≡ r.used → v ≡ accepted (reportOf x r.pose ms) rounds passes queries comparisons)
+      (w : report_of x r.pose (take j after) ≡ reported (fixed_of k) r.pose (take j after) (rows ss ds (take j after)))
+      (e : (ms : List ℕ) → length ms / 2 ≡ r.used → v ≡ accepted (report_of x r.pose ms) rounds passes queries comparisons)
       (o : out ≡ fronted (take j after) l) where
-    front-count : length (take j after) / 2 ≡ r.used
-    front-count =
+    front_count : length (take j after) / 2 ≡ r.used
+    front_count =
         let room : j ≤ length after = omega (arith, is, long, fits, d.fewer) in
         omega (arith, length-take-le j after room, is)
 
-    pub closes-fine : r.fine ≡ true → Closes out v
-    unfolding concluded valuesOf resultAfter
-    closes-fine f =
+    pub closes_fine : r.fine ≡ true → Closes out v
+    unfolding concluded values_of result_after
+    closes_fine f =
         let ms = take j after in
-        let whole : closedOf r after ≡ fine r.pose ms =
+        let whole : closed_of r after ≡ fine r.pose ms =
         ap (λ (b : Bool). cond b (fine r.pose (take (2 * r.used) after)) unsound) f ∙ ap (λ (n : ℕ). fine r.pose (take n after)) (sym is) in
-        let it : Answered (ok (reportOf x r.pose ms) rounds passes queries comparisons) l out v = record { values = e ms front-count; list = o } in
+        let it : Answered (ok (report_of x r.pose ms) rounds passes queries comparisons) l out v = record { values = e ms front_count; list = o } in
         closes {x = fine r.pose ms} whole (subst (λ (y : Report). Answered (ok y rounds passes queries comparisons) l out v) w it)
 
 -- ---- what the start and the run are lent
 
-count-is : (c : Call) → (fixed c).count ≡ directionCount c
+count_is : (c : Call) → (fixed c).count ≡ direction_count c
 unfolding fixed
-count-is c = refl
+count_is c = refl
 
-capacity-is : (c : Call) → (fixed c).capacity ≡ capacity c.given.lent.distances c.given.lent.indices
+capacity_is : (c : Call) → (fixed c).capacity ≡ capacity c.given.lent.distances c.given.lent.indices
 unfolding fixed
-capacity-is c = refl
+capacity_is c = refl
 
-pub begin-fits : (c : Call) → refusal c ≡ 0 → (length c.given.matches ≤ length c.given.lent.numbers) × (length c.given.matches % 2 ≡ 0)
-begin-fits c lawful = (omega (arith, (passed c lawful).even, (passed c lawful).numbers), (passed c lawful).even)
+pub begin_fits : (c : Call) → refusal c ≡ 0 → (length c.given.matches ≤ length c.given.lent.numbers) × (length c.given.matches % 2 ≡ 0)
+begin_fits c lawful = (omega (arith, (passed c lawful).even, (passed c lawful).numbers), (passed c lawful).even)
 
-pub run_fits : (c : Call) → refusal c ≡ 0 → (k : Settings) → fixedOf k ≡ fixed c → (n : ℕ) → n ≡ total c → (h : Held) → h.used ≡ matchCount c → h.cached ≡ 0
+pub run_fits : (c : Call) → refusal c ≡ 0 → (k : Settings) → fixed_of k ≡ fixed c → (n : ℕ) → n ≡ total c → (h : Held) → h.used ≡ match_count c → h.cached ≡ 0
     → (numbers : List ℕ) → length numbers ≡ length c.given.lent.numbers
     → Ready k n c.spots c.directions numbers c.given.lent.floats c.given.lent.distances c.given.lent.indices × Fits k n h × (c.given.rounds ≤ 64)
 run_fits c lawful k same n w h used cached numbers long =
     let b = passed c lawful in
-    let count : k.count ≡ directionCount c = ap (λ (x : Fixed). x.count) same ∙ count-is c in
+    let count : k.count ≡ direction_count c = ap (λ (x : Fixed). x.count) same ∙ count_is c in
     let many : 16 * n ≤ length numbers = omega (arith, w, b.numbers, long) in
     let far : 16 * n ≤ length c.given.lent.floats = omega (arith, w, b.floats) in (
       record {
         roomy = record { count = count; room = omega (arith, w, count); many = many; far = far };
-        matchable = record { room = omega (arith, w, count); many = many; far = far; capacity = ap (λ (x : Fixed). x.capacity) same ∙ capacity-is c };
+        matchable = record { room = omega (arith, w, count); many = many; far = far; capacity = ap (λ (x : Fixed). x.capacity) same ∙ capacity_is c };
       },
       record { used = omega (arith, w, used); cached = omega (arith, cached) },
       b.rounds,
@@ -115,8 +115,8 @@ starts_with : (g : Given) → (start g).matches ≡ g.matches
 unfolding start
 starts_with g = refl
 
-run_is : (c : Call) → loop (fixed c) c.spots c.directions c.given.rounds (start c.given) ≡ runOf c
-unfolding runOf
+run_is : (c : Call) → loop (fixed c) c.spots c.directions c.given.rounds (start c.given) ≡ run_of c
+unfolding run_of
 run_is c = refl
 
 closed_is : (c : Call) (x : Closed) (u : Run) → concluded (fixed c) c.spots c.directions x u.rounds u.passes (length u.queries) u.comparisons ≡ closed c x u
@@ -124,135 +124,135 @@ unfolding closed concluded
 closed_is c unsound u = refl
 closed_is c (fine p ms) u = refl
 
-finished-refused : (c : Call) (x : ℕ) (s : State) (u : Run) → (x ≡ 0 → ⊥) → no x ≡ finished c (endingOf x s) u
-unfolding endingOf finished
-finished-refused c zero s u h = absurd (h refl)
-finished-refused c (suc x) s u h = refl
+finished_refused : (c : Call) (x : ℕ) (s : State) (u : Run) → (x ≡ 0 → ⊥) → no x ≡ finished c (ending_of x s) u
+unfolding ending_of finished
+finished_refused c zero s u h = absurd (h refl)
+finished_refused c (suc x) s u h = refl
 
-finished-ended : (c : Call) (x : ℕ) (s : State) (u : Run) → x ≡ 0
+finished_ended : (c : Call) (x : ℕ) (s : State) (u : Run) → x ≡ 0
     → concluded (fixed c) c.spots c.directions (cleaned (fixed c) c.spots c.directions 3 s.pose s.matches) u.rounds u.passes (length u.queries) u.comparisons
-    ≡ finished c (endingOf x s) u
-unfolding endingOf finished
-finished-ended c zero s u h = closed_is c (cleaned (fixed c) c.spots c.directions 3 s.pose s.matches) u
-finished-ended c (suc x) s u h =
+    ≡ finished c (ending_of x s) u
+unfolding ending_of finished
+finished_ended c zero s u h = closed_is c (cleaned (fixed c) c.spots c.directions 3 s.pose s.matches) u
+finished_ended c (suc x) s u h =
     let z : ⊥ = omega arith in
     absurd z
 
 module _ (c : Call) (lawful : refusal c ≡ 0) where
-  answer-is : finished c (runOf c).ending (runOf c) ≡ answer c
+  answer_is : finished c (run_of c).ending (run_of c) ≡ answer c
   unfolding answer
-  answer-is = ap (answerAfter c) (sym lawful)
+  answer_is = ap (answer_after c) (sym lawful)
 
-  room : 2 * min (spotCount c) (fixed c).limit ≤ resultPlaces c
+  room : 2 * min (spot_count c) (fixed c).limit ≤ result_places c
   room = omega (arith, limit_is c)
 
-  run_ends : Ends (fixed c) c.spots c.directions (resultPlaces c) room (runOf c).ending
+  run_ends : Ends (fixed c) c.spots c.directions (result_places c) room (run_of c).ending
   run_ends =
-      let few : length (start c.given).matches ≤ resultPlaces c = omega (arith, ap length (starts_with c.given), (passed c lawful).even) in
-      subst (λ (u : Run). Ends (fixed c) c.spots c.directions (resultPlaces c) room u.ending) (run_is c)
-      (loop-ends (fixed c) c.spots c.directions (resultPlaces c) room c.given.rounds (start c.given) few)
+      let few : length (start c.given).matches ≤ result_places c = omega (arith, ap length (starts_with c.given), (passed c lawful).even) in
+      subst (λ (u : Run). Ends (fixed c) c.spots c.directions (result_places c) room u.ending) (run_is c)
+      (loop_ends (fixed c) c.spots c.directions (result_places c) room c.given.rounds (start c.given) few)
 
-  few-ended : (x : ℕ) (s : State) → x ≡ 0 → Ends (fixed c) c.spots c.directions (resultPlaces c) room (endingOf x s) → length s.matches ≤ resultPlaces c
-  unfolding endingOf
-  few-ended zero s h e = e
-  few-ended (suc x) s h e =
+  few_ended : (x : ℕ) (s : State) → x ≡ 0 → Ends (fixed c) c.spots c.directions (result_places c) room (ending_of x s) → length s.matches ≤ result_places c
+  unfolding ending_of
+  few_ended zero s h e = e
+  few_ended (suc x) s h e =
       let z : ⊥ = omega arith in
       absurd z
 
   -- what the code's run ends in
-  module _ (k : Settings) (n : ℕ) (h : Held) (before after : List ℕ) (r : Ran) (same : fixedOf k ≡ fixed c) (begun : heldState n h before ≡ start c.given)
+  module _ (k : Settings) (n : ℕ) (h : Held) (before after : List ℕ) (r : Ran) (same : fixed_of k ≡ fixed c) (begun : held_state n h before ≡ start c.given)
       (ran : RanTo k n c.spots c.directions c.given.rounds h before after r) where
-    run-same : loop (fixedOf k) c.spots c.directions c.given.rounds (heldState n h before) ≡ runOf c
-    run-same =
-        ap (λ (x : Fixed). loop x c.spots c.directions c.given.rounds (heldState n h before)) same
+    run_same : loop (fixed_of k) c.spots c.directions c.given.rounds (held_state n h before) ≡ run_of c
+    run_same =
+        ap (λ (x : Fixed). loop x c.spots c.directions c.given.rounds (held_state n h before)) same
         ∙ ap (λ (s : State). loop (fixed c) c.spots c.directions c.given.rounds s) begun ∙ run_is c
 
-    last : endingOf r.refusal (heldState n r.held after) ≡ (runOf c).ending
-    last = ran.ending ∙ ap (λ (u : Run). u.ending) run-same
+    last : ending_of r.refusal (held_state n r.held after) ≡ (run_of c).ending
+    last = ran.ending ∙ ap (λ (u : Run). u.ending) run_same
 
-    pub refused-answer : (r.refusal ≡ 0 → ⊥) → {v : WcsRefineResult} → v ≡ refusedWith r.refusal → (l : List ℕ) → Answered (answer c) l l v
-    unfolding valuesOf resultAfter
-    refused-answer f {v} e l =
+    pub refused_answer : (r.refusal ≡ 0 → ⊥) → {v : WcsRefineResult} → v ≡ refused_with r.refusal → (l : List ℕ) → Answered (answer c) l l v
+    unfolding values_of result_after
+    refused_answer f {v} e l =
         let it : Answered (no r.refusal) l l v = record { values = e; list = refl } in
         subst (λ (y : Answer). Answered y l l v)
-        (finished-refused c r.refusal (heldState n r.held after) (runOf c) f ∙ ap (λ (y : Ending). finished c y (runOf c)) last ∙ answer-is) it
+        (finished_refused c r.refusal (held_state n r.held after) (run_of c) f ∙ ap (λ (y : Ending). finished c y (run_of c)) last ∙ answer_is) it
 
     abbrev concludes : Fixed → ℕ → ℕ → ℕ → ℕ → Answer
     concludes y rounds passes queries comparisons =
         concluded y c.spots c.directions (cleaned y c.spots c.directions 3 r.held.pose (take (2 * r.held.used) after)) rounds passes queries comparisons
 
-    pub ended-answer : r.refusal ≡ 0 → {l out : List ℕ} {v : WcsRefineResult}
-        → Answered (concludes (fixedOf k) r.rounds r.passes r.queries r.comparisons) l out v → Answered (answer c) l out v
-    ended-answer f {l} {out} {v} a =
-        let u = runOf c in
-        let rounds : r.rounds ≡ u.rounds = ran.rounds ∙ ap (λ (y : Run). y.rounds) run-same in
-        let passes : r.passes ≡ u.passes = ran.passes ∙ ap (λ (y : Run). y.passes) run-same in
-        let queries : r.queries ≡ length u.queries = ran.count ∙ ap (λ (y : Run). length y.queries) run-same in
-        let comparisons : r.comparisons ≡ u.comparisons = ran.comparisons ∙ ap (λ (y : Run). y.comparisons) run-same in
+    pub ended_answer : r.refusal ≡ 0 → {l out : List ℕ} {v : WcsRefineResult}
+        → Answered (concludes (fixed_of k) r.rounds r.passes r.queries r.comparisons) l out v → Answered (answer c) l out v
+    ended_answer f {l} {out} {v} a =
+        let u = run_of c in
+        let rounds : r.rounds ≡ u.rounds = ran.rounds ∙ ap (λ (y : Run). y.rounds) run_same in
+        let passes : r.passes ≡ u.passes = ran.passes ∙ ap (λ (y : Run). y.passes) run_same in
+        let queries : r.queries ≡ length u.queries = ran.count ∙ ap (λ (y : Run). length y.queries) run_same in
+        let comparisons : r.comparisons ≡ u.comparisons = ran.comparisons ∙ ap (λ (y : Run). y.comparisons) run_same in
         subst (λ (y : Answer). Answered y l out v)
         (ap (λ (y : Fixed). concludes y r.rounds r.passes r.queries r.comparisons) same
         ∙ ap (λ (y : ℕ). concludes (fixed c) y r.passes r.queries r.comparisons) rounds
         ∙ ap (λ (y : ℕ). concludes (fixed c) u.rounds y r.queries r.comparisons) passes
         ∙ ap (λ (y : ℕ). concludes (fixed c) u.rounds u.passes y r.comparisons) queries
         ∙ ap (λ (y : ℕ). concludes (fixed c) u.rounds u.passes (length u.queries) y) comparisons
-        ∙ finished-ended c r.refusal (heldState n r.held after) u f ∙ ap (λ (y : Ending). finished c y u) last ∙ answer-is)
+        ∙ finished_ended c r.refusal (held_state n r.held after) u f ∙ ap (λ (y : Ending). finished c y u) last ∙ answer_is)
         a
 
     -- every list has room for the matches that are left
-    pub ended-fits : r.refusal ≡ 0 → n ≡ total c → length after ≡ length c.given.lent.numbers → (floats : List Float) → length floats ≡ length c.given.lent.floats
+    pub ended_fits : r.refusal ≡ 0 → n ≡ total c → length after ≡ length c.given.lent.numbers → (floats : List Float) → length floats ≡ length c.given.lent.floats
         → (2 * r.held.used ≤ length after) × (2 * r.held.used ≤ length floats) × (2 * r.held.used ≤ length c.given.lent.result)
-    ended-fits f w long floats wide =
+    ended_fits f w long floats wide =
         let front : 2 * r.held.used ≤ length after = omega (arith, ran.fits.used, (passed c lawful).numbers) in
-        let few = few-ended r.refusal (heldState n r.held after) f (subst (Ends (fixed c) c.spots c.directions (resultPlaces c) room) (sym last) run_ends) in
+        let few = few_ended r.refusal (held_state n r.held after) f (subst (Ends (fixed c) c.spots c.directions (result_places c) room) (sym last) run_ends) in
         (front, omega (arith, ran.fits.used, (passed c lawful).floats), omega (arith, few, length-take-le (2 * r.held.used) after front, (passed c lawful).result))
 
 -- ---- the lists
 
-left-late : (l : Lent) (a : Answer) → cleared (resultAfter l.result a) l ≡ left l 0 a
-unfolding left resultAfter
-left-late l (no n) = refl
-left-late l (ok r rounds passes queries comparisons) = refl
+left_late : (l : Lent) (a : Answer) → cleared (result_after l.result a) l ≡ left l 0 a
+unfolding left result_after
+left_late l (no n) = refl
+left_late l (ok r rounds passes queries comparisons) = refl
 
-left-early : (l : Lent) (n : ℕ) (a : Answer) → (n ≡ 0 → ⊥) → l ≡ left l n a
+left_early : (l : Lent) (n : ℕ) (a : Answer) → (n ≡ 0 → ⊥) → l ≡ left l n a
 unfolding left
-left-early l zero a f = absurd (f refl)
-left-early l (suc n) a f = refl
+left_early l zero a f = absurd (f refl)
+left_early l (suc n) a f = refl
 
 abbrev both : WcsRefineResult → Lent → Returned
 both r l = record { result = r; lent = l }
 
-both_is : (c : Call) → both (valuesOf (answer c)) (left c.given.lent (refusal c) (answer c)) ≡ returned (outcome c)
+both_is : (c : Call) → both (values_of (answer c)) (left c.given.lent (refusal c) (answer c)) ≡ returned (outcome c)
 unfolding returned outcome
 both_is c = refl
 
-cleared-is : (result : List ℕ) (l : Lent) (a b d e : ℕ) → a ≡ length l.numbers → b ≡ length l.floats → d ≡ length l.distances → e ≡ length l.indices
+cleared_is : (result : List ℕ) (l : Lent) (a b d e : ℕ) → a ≡ length l.numbers → b ≡ length l.floats → d ≡ length l.distances → e ≡ length l.indices
     → lists (replicate a 0) (replicate b zero64) (replicate d zero64) (replicate e 0) result ≡ cleared result l
 unfolding cleared
-cleared-is result l a b d e i j m n = rw (i, j, m, n)
+cleared_is result l a b d e i j m n = rw (i, j, m, n)
 
 -- the run's answer, and its lists cleared
-pub run-returns : (c : Call) → refusal c ≡ 0 → {out : List ℕ} {v : WcsRefineResult} → Answered (answer c) c.given.lent.result out v
+pub run_returns : (c : Call) → refusal c ≡ 0 → {out : List ℕ} {v : WcsRefineResult} → Answered (answer c) c.given.lent.result out v
     → (a b d e : ℕ) → a ≡ length c.given.lent.numbers → b ≡ length c.given.lent.floats → d ≡ length c.given.lent.distances → e ≡ length c.given.lent.indices
     → {ns : List ℕ} {fs ds : List Float} {is : List ℕ} → ns ≡ replicate a 0 → fs ≡ replicate b zero64 → ds ≡ replicate d zero64 → is ≡ replicate e 0
     → Answers c v (lists ns fs ds is out)
-run-returns c lawful {out} {v} w a b d e i j m n {ns} {fs} {ds} {is} p q s t =
+run_returns c lawful {out} {v} w a b d e i j m n {ns} {fs} {ds} {is} p q s t =
     let l = c.given.lent in
     let lent : lists ns fs ds is out ≡ left l (refusal c) (answer c) =
     ap (λ (x : List ℕ). lists x fs ds is out) p ∙ ap (λ (x : List Float). lists (replicate a 0) x ds is out) q ∙ ap (λ (x : List Float). lists (replicate a 0) (replicate b zero64) x is out) s
-    ∙ ap (λ (x : List ℕ). lists (replicate a 0) (replicate b zero64) (replicate d zero64) x out) t ∙ cleared-is out l a b d e i j m n
-    ∙ ap (λ (x : List ℕ). cleared x l) w.list ∙ left-late l (answer c) ∙ ap (λ (n : ℕ). left l n (answer c)) (sym lawful) in
-    ap (λ (x : WcsRefineResult). both x (lists ns fs ds is out)) w.values ∙ ap (both (valuesOf (answer c))) lent ∙ both_is c
+    ∙ ap (λ (x : List ℕ). lists (replicate a 0) (replicate b zero64) (replicate d zero64) x out) t ∙ cleared_is out l a b d e i j m n
+    ∙ ap (λ (x : List ℕ). cleared x l) w.list ∙ left_late l (answer c) ∙ ap (λ (n : ℕ). left l n (answer c)) (sym lawful) in
+    ap (λ (x : WcsRefineResult). both x (lists ns fs ds is out)) w.values ∙ ap (both (values_of (answer c))) lent ∙ both_is c
 
-answer-early : (c : Call) (n : ℕ) → refusal c ≡ n → (n ≡ 0 → ⊥) → answer c ≡ no n
+answer_early : (c : Call) (n : ℕ) → refusal c ≡ n → (n ≡ 0 → ⊥) → answer c ≡ no n
 unfolding answer
-answer-early c zero e f = absurd (f refl)
-answer-early c (suc n) e f = ap (answerAfter c) e
+answer_early c zero e f = absurd (f refl)
+answer_early c (suc n) e f = ap (answer_after c) e
 
 -- refused by a check: nothing is written
-pub check-returns : (c : Call) (n : ℕ) → n ≡ refusal c → (n ≡ 0 → ⊥) → {v : WcsRefineResult} → v ≡ refusedWith n → Answers c v c.given.lent
-unfolding valuesOf
-check-returns c n e f {v} w =
+pub check_returns : (c : Call) (n : ℕ) → n ≡ refusal c → (n ≡ 0 → ⊥) → {v : WcsRefineResult} → v ≡ refused_with n → Answers c v c.given.lent
+unfolding values_of
+check_returns c n e f {v} w =
     let l = c.given.lent in
-    let is : no n ≡ answer c = sym (answer-early c n (sym e) f) in
-    let lent : l ≡ left l (refusal c) (answer c) = left-early l n (answer c) f ∙ ap (λ (x : ℕ). left l x (answer c)) e in
-    ap (λ (x : WcsRefineResult). both x l) w ∙ ap (λ (x : Answer). both (valuesOf x) l) is ∙ ap (both (valuesOf (answer c))) lent ∙ both_is c
+    let is : no n ≡ answer c = sym (answer_early c n (sym e) f) in
+    let lent : l ≡ left l (refusal c) (answer c) = left_early l n (answer c) f ∙ ap (λ (x : ℕ). left l x (answer c)) e in
+    ap (λ (x : WcsRefineResult). both x l) w ∙ ap (λ (x : Answer). both (values_of x) l) is ∙ ap (both (values_of (answer c))) lent ∙ both_is c

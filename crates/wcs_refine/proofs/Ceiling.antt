@@ -4,11 +4,11 @@ use Rattle.std.proofs.Common.{◌≡◌, ℕ, zero, suc, ◌*◌, ◌^◌, ◌�
 use lib.Ieee.{Float}
 use Rattle.rounding.specs.Arith.{◌⊗◌}
 use Rattle.pairs.specs.Pairs.{Pair, pairs}
-use Rattle.matching.specs.Merge.{notAfter}
+use Rattle.matching.specs.Merge.{not_after}
 use Rattle.matching.specs.Comparisons.{comparisons, LeastPower}
-use Rattle.matching.proofs.Counting.{ceiling, at-most-power}
-use Rattle.project.specs.Camera.{cameraRows}
-use Rattle.panel.specs.Points.{pointsOf}
+use Rattle.matching.proofs.Counting.{ceiling, at_most_power}
+use Rattle.project.specs.Camera.{camera_rows}
+use Rattle.panel.specs.Points.{points_of}
 use Rattle.fit.specs.declared.Pose.{Pose}
 use Rattle.entry.specs.Arguments.{Call}
 use Rattle.entry.specs.Check.{refusal}
@@ -18,9 +18,9 @@ use Rattle.wcs_refine.specs.Clip.{clipped}
 use Rattle.wcs_refine.specs.Associate.{laid}
 use Rattle.wcs_refine.specs.Round.{State, Next, go, done, refuse, Found, compared, fresh, reused, searched, rest, fitted, round, Ending, refused, ended, Run, carry, loop}
 use Rattle.wcs_refine.specs.Closing.{Closed, unsound, fine, cleaned}
-use Rattle.wcs_refine.specs.Call.{start, runOf, closed, finished, answerAfter, answer, outcome}
-use Rattle.wcs_refine.specs.Returned.{refusedWith, accepted, valuesOf, Returned, returned}
-use Rattle.wcs_refine.specs.Meaning.{fit, measured, spread, radius, listedBy, predicted, found}
+use Rattle.wcs_refine.specs.Call.{start, run_of, closed, finished, answer_after, answer, outcome}
+use Rattle.wcs_refine.specs.Returned.{refused_with, accepted, values_of, Returned, returned}
+use Rattle.wcs_refine.specs.Meaning.{fit, measured, spread, radius, listed_by, predicted, found}
 use Rattle.wcs_refine.specs.Ceiling.{RoundCeiling, CallCeiling}
 use Rattle.wcs_refine.proofs.Along.{either}
 
@@ -30,23 +30,23 @@ module _ (k : Fixed) (points : List Float) (r : Float) (qs : List Prediction) wh
   abbrev near : List Pair
   near = pairs points k.limit (laid qs) (r ⊗ r)
 
-  compared-least : (b : ℕ) → LeastPower (length near) b → compared k points r qs ≤ length near * b
+  compared_least : (b : ℕ) → LeastPower (length near) b → compared k points r qs ≤ length near * b
   unfolding compared
-  compared-least b h =
-      either (λ (c : ℕ). c ≤ length near * b) (ltb k.capacity (length near)) 0 (comparisons notAfter near) (omega arith)
-      (ceiling Pair notAfter near b h)
+  compared_least b h =
+      either (λ (c : ℕ). c ≤ length near * b) (ltb k.capacity (length near)) 0 (comparisons not_after near) (omega arith)
+      (ceiling Pair not_after near b h)
 
   -- where they are more than the candidate lists hold, none are put in order
-  compared-held : (b : ℕ) → k.capacity ≤ 2 ^ b → compared k points r qs ≤ k.capacity * b
+  compared_held : (b : ℕ) → k.capacity ≤ 2 ^ b → compared k points r qs ≤ k.capacity * b
   unfolding compared
-  compared-held b h = by (ltb k.capacity (length near)) refl
+  compared_held b h = by (ltb k.capacity (length near)) refl
     where
-      by : (x : Bool) → ltb k.capacity (length near) ≡ x → cond x 0 (comparisons notAfter near) ≤ k.capacity * b
+      by : (x : Bool) → ltb k.capacity (length near) ≡ x → cond x 0 (comparisons not_after near) ≤ k.capacity * b
       by true e = omega arith
       by false e =
           let few : length near ≤ k.capacity = ltb-false k.capacity (length near) e in
           let reaches : length near ≤ 2 ^ b = omega arith in
-          omega (arith, at-most-power notAfter near b reaches, mul-le-mul_right b few)
+          omega (arith, at_most_power not_after near b reaches, mul-le-mul_right b few)
 
 -- ---- a round
 
@@ -62,95 +62,95 @@ module _ (k : Fixed) (spots directions : List Float) (s : State) where
   px = radius k spots directions s
 
   -- the comparisons on the predictions of what is listed
-  abbrev comparedOn : List ℕ → ℕ
-  comparedOn listed = compared k (pointsOf spots k.limit) px (predictions k directions (cameraRows pose.theta pose.ra pose.dec) listed)
+  abbrev compared_on : List ℕ → ℕ
+  compared_on listed = compared k (points_of spots k.limit) px (predictions k directions (camera_rows pose.theta pose.ra pose.dec) listed)
 
-  fresh-compares : (listed : List ℕ) → (fresh k spots directions pose kept px listed).comparisons ≡ comparedOn listed
+  fresh_compares : (listed : List ℕ) → (fresh k spots directions pose kept px listed).comparisons ≡ compared_on listed
   unfolding fresh
-  fresh-compares listed = refl
+  fresh_compares listed = refl
 
-  reused-compares : (b : List Float) (theta : Float) (listed : List ℕ) (due : Bool)
-      → (reused k spots directions pose kept px b theta listed due).comparisons ≡ comparedOn (cond due (query k directions pose) listed)
+  reused_compares : (b : List Float) (theta : Float) (listed : List ℕ) (due : Bool)
+      → (reused k spots directions pose kept px b theta listed due).comparisons ≡ compared_on (cond due (query k directions pose) listed)
   unfolding reused
-  reused-compares b theta listed true = fresh-compares (query k directions pose)
-  reused-compares b theta listed false = refl
+  reused_compares b theta listed true = fresh_compares (query k directions pose)
+  reused_compares b theta listed false = refl
 
-  searched-compares : (c : Cache) → (searched k spots directions pose kept px c).comparisons ≡ comparedOn (listedBy k spots directions s c)
+  searched_compares : (c : Cache) → (searched k spots directions pose kept px c).comparisons ≡ compared_on (listed_by k spots directions s c)
   unfolding searched
-  searched-compares empty = fresh-compares (query k directions pose)
-  searched-compares (full b theta listed) = reused-compares b theta listed (drifted k pose b theta)
+  searched_compares empty = fresh_compares (query k directions pose)
+  searched_compares (full b theta listed) = reused_compares b theta listed (drifted k pose b theta)
 
   -- none where the passes are refused
-  round-compares : (round k spots directions s).found.comparisons
-      ≡ cond (fit k spots directions s).fine (compared k (pointsOf spots k.limit) px (predicted k spots directions s)) 0
+  round_compares : (round k spots directions s).found.comparisons
+      ≡ cond (fit k spots directions s).fine (compared k (points_of spots k.limit) px (predicted k spots directions s)) 0
   unfolding round fitted rest
-  round-compares = by (fit k spots directions s).fine
+  round_compares = by (fit k spots directions s).fine
     where
       unfit : Found
       unfit = record { next = refuse 12; queries = []; comparisons = 0 }
 
       by : (b : Bool) → (cond b (searched k spots directions pose kept px s.cache) unfit).comparisons
-          ≡ cond b (compared k (pointsOf spots k.limit) px (predicted k spots directions s)) 0
-      by true = searched-compares s.cache
+          ≡ cond b (compared k (points_of spots k.limit) px (predicted k spots directions s)) 0
+      by true = searched_compares s.cache
       by false = refl
 
   -- what is so of no comparison, and of those on the predictions, is so of a round's
-  round-within : (n : ℕ) → compared k (pointsOf spots k.limit) px (predicted k spots directions s) ≤ n
+  round_within : (n : ℕ) → compared k (points_of spots k.limit) px (predicted k spots directions s) ≤ n
       → (round k spots directions s).found.comparisons ≤ n
-  round-within n h =
-      let c = compared k (pointsOf spots k.limit) px (predicted k spots directions s) in
+  round_within n h =
+      let c = compared k (points_of spots k.limit) px (predicted k spots directions s) in
       let most : cond (fit k spots directions s).fine c 0 ≤ n = either (λ (m : ℕ). m ≤ n) (fit k spots directions s).fine c 0 h (omega arith) in
-      omega (arith, round-compares)
+      omega (arith, round_compares)
 
-pub round-ceiling : RoundCeiling
-round-ceiling k spots directions s b h =
-    round-within k spots directions s (found k spots directions s * b)
-    (compared-least k (pointsOf spots k.limit) (radius k spots directions s) (predicted k spots directions s) b h)
+pub round_ceiling : RoundCeiling
+round_ceiling k spots directions s b h =
+    round_within k spots directions s (found k spots directions s * b)
+    (compared_least k (points_of spots k.limit) (radius k spots directions s) (predicted k spots directions s) b h)
 
 -- ---- the loop: the largest count of its rounds
 
 module _ (k : Fixed) (spots directions : List Float) (b : ℕ) (reaches : k.capacity ≤ 2 ^ b) where
-  carry-within : (n : ℕ) (qs : List (List ℕ)) (m : ℕ) (x : Next) (f : State → Run) → m ≤ k.capacity * b
+  carry_within : (n : ℕ) (qs : List (List ℕ)) (m : ℕ) (x : Next) (f : State → Run) → m ≤ k.capacity * b
       → ((t : State) → (f t).comparisons ≤ k.capacity * b) → (carry n qs m x f).comparisons ≤ k.capacity * b
   unfolding carry
-  carry-within n qs m (go s) f h g = omega (arith, g s)
-  carry-within n qs m (done s) f h g = h
-  carry-within n qs m (refuse y) f h g = h
+  carry_within n qs m (go s) f h g = omega (arith, g s)
+  carry_within n qs m (done s) f h g = h
+  carry_within n qs m (refuse y) f h g = h
 
-  loop-within : (n : ℕ) (s : State) → (loop k spots directions n s).comparisons ≤ k.capacity * b
+  loop_within : (n : ℕ) (s : State) → (loop k spots directions n s).comparisons ≤ k.capacity * b
   unfolding loop
-  loop-within zero s = omega arith
-  loop-within (suc n) s =
+  loop_within zero s = omega arith
+  loop_within (suc n) s =
       let r = round k spots directions s in
-      carry-within r.passes r.found.queries r.found.comparisons r.found.next (λ t. loop k spots directions n t)
-      (round-within k spots directions s (k.capacity * b)
-      (compared-held k (pointsOf spots k.limit) (radius k spots directions s) (predicted k spots directions s) b reaches))
-      (λ t. loop-within n t)
+      carry_within r.passes r.found.queries r.found.comparisons r.found.next (λ t. loop k spots directions n t)
+      (round_within k spots directions s (k.capacity * b)
+      (compared_held k (points_of spots k.limit) (radius k spots directions s) (predicted k spots directions s) b reaches))
+      (λ t. loop_within n t)
 
 -- ---- a call: none where it is refused, else those of its run
 
 module _ (c : Call) (u : Run) where
-  closed-within : (x : Closed) → (valuesOf (closed c x u)).comparisons ≤ u.comparisons
-  unfolding closed valuesOf refusedWith accepted
-  closed-within unsound = omega arith
-  closed-within (fine p ms) = omega arith
+  closed_within : (x : Closed) → (values_of (closed c x u)).comparisons ≤ u.comparisons
+  unfolding closed values_of refused_with accepted
+  closed_within unsound = omega arith
+  closed_within (fine p ms) = omega arith
 
-  finished-within : (e : Ending) → (valuesOf (finished c e u)).comparisons ≤ u.comparisons
-  unfolding finished valuesOf refusedWith
-  finished-within (refused n) = omega arith
-  finished-within (ended s) = closed-within (cleaned (fixed c) c.spots c.directions 3 s.pose s.matches)
+  finished_within : (e : Ending) → (values_of (finished c e u)).comparisons ≤ u.comparisons
+  unfolding finished values_of refused_with
+  finished_within (refused n) = omega arith
+  finished_within (ended s) = closed_within (cleaned (fixed c) c.spots c.directions 3 s.pose s.matches)
 
-answered-within : (c : Call) (n : ℕ) → (valuesOf (answerAfter c n)).comparisons ≤ (runOf c).comparisons
-unfolding valuesOf refusedWith
-answered-within c zero = finished-within c (runOf c) (runOf c).ending
-answered-within c (suc n) = omega arith
+answered_within : (c : Call) (n : ℕ) → (values_of (answer_after c n)).comparisons ≤ (run_of c).comparisons
+unfolding values_of refused_with
+answered_within c zero = finished_within c (run_of c) (run_of c).ending
+answered_within c (suc n) = omega arith
 
-run-within : (c : Call) (b : ℕ) → (fixed c).capacity ≤ 2 ^ b → (runOf c).comparisons ≤ (fixed c).capacity * b
-unfolding runOf
-run-within c b h = loop-within (fixed c) c.spots c.directions b h c.given.rounds (start c.given)
+run_within : (c : Call) (b : ℕ) → (fixed c).capacity ≤ 2 ^ b → (run_of c).comparisons ≤ (fixed c).capacity * b
+unfolding run_of
+run_within c b h = loop_within (fixed c) c.spots c.directions b h c.given.rounds (start c.given)
 
-pub call-ceiling : CallCeiling
+pub call_ceiling : CallCeiling
 unfolding returned outcome answer fixed
-call-ceiling c r l b is h =
-    let same : r.comparisons ≡ (valuesOf (answer c)).comparisons = ap (λ (x : Returned). x.result.comparisons) is in
-    omega (arith, answered-within c (refusal c), run-within c b h.reaches)
+call_ceiling c r l b is h =
+    let same : r.comparisons ≡ (values_of (answer c)).comparisons = ap (λ (x : Returned). x.result.comparisons) is in
+    omega (arith, answered_within c (refusal c), run_within c b h.reaches)

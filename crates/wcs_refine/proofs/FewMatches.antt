@@ -2,13 +2,13 @@
 use Rattle.std.proofs.Common.{◌≡◌, ℕ, zero, suc, ◌*◌, ◌/◌, ◌<◌, ◌≤◌, Bool, true, false, cond, ◌||◌, eqb, List, [], ◌∷◌, length, refl, ap, ◌∙◌, not-suc-le-zero, arith, eqb-true}
 use borrow.Author.Tests.{eqb-false}
 use lib.Ieee.{Float}
-use Rattle.pairs.specs.Pairs.{Pair, pairsFrom, pairs, spotsWithin}
-use Rattle.matching.specs.Merge.{notAfter, merged}
-use Rattle.matching.specs.Greedy.{Match, clashes, assigned, matchesOf}
+use Rattle.pairs.specs.Pairs.{Pair, pairs_from, pairs, spots_within}
+use Rattle.matching.specs.Merge.{not_after, merged}
+use Rattle.matching.specs.Greedy.{Match, clashes, assigned, matches_of}
 use Rattle.pairs.specs.Elements.{All, none, more}
 use Rattle.pairs.specs.Candidates.{Inside}
-use Rattle.matching.proofs.Merging.{all-merged}
-use Rattle.pairs.proofs.Pushing.{pairs-inside}
+use Rattle.matching.proofs.Merging.{all_merged}
+use Rattle.pairs.proofs.Pushing.{pairs_inside}
 use Rattle.query.specs.Query.{Prediction}
 use Rattle.wcs_refine.specs.Associate.{renamed}
 
@@ -22,15 +22,15 @@ free : List Match → ℕ → ℕ
 free ms zero = 0
 free ms (suc n) = cond (has n ms) (free ms n) (suc (free ms n))
 
-free-none : (n : ℕ) → free [] n ≡ n
+free_none : (n : ℕ) → free [] n ≡ n
 unfolding free has
-free-none zero = refl
-free-none (suc n) = ap suc (free-none n)
+free_none zero = refl
+free_none (suc n) = ap suc (free_none n)
 
-spot-free : (p : Pair) (ms : List Match) → clashes p ms ≡ false → has p.spot ms ≡ false
+spot_free : (p : Pair) (ms : List Match) → clashes p ms ≡ false → has p.spot ms ≡ false
 unfolding clashes has
-spot-free p [] h = refl
-spot-free p (m ∷ ms) h = by (eqb p.spot m.spot) (eqb p.prediction m.prediction) (clashes p ms) (has p.spot ms) (spot-free p ms) h
+spot_free p [] h = refl
+spot_free p (m ∷ ms) h = by (eqb p.spot m.spot) (eqb p.prediction m.prediction) (clashes p ms) (has p.spot ms) (spot_free p ms) h
   where
     by : (a b c d : Bool) → (c ≡ false → d ≡ false) → a || b || c ≡ false → a || d ≡ false
     by true b c d f h = h
@@ -67,31 +67,31 @@ one_less m ms (suc n) h e = by (eqb n m.spot) refl (λ less. one_less m ms n les
         rw q (other (has n ms) (free (m ∷ ms) n) (free ms n) (then less))
 
 module _ (np nq : ℕ) where
-  abbrev match-of : Pair → Match
-  match-of p = record { spot = p.spot; prediction = p.prediction }
+  abbrev match_of : Pair → Match
+  match_of p = record { spot = p.spot; prediction = p.prediction }
 
-  few-step : (p : Pair) (ps : List Pair) (taken : List Match) → p.spot < np → length (assigned taken ps) ≤ free taken np
-      → length (assigned (match-of p ∷ taken) ps) ≤ free (match-of p ∷ taken) np → (b : Bool) → clashes p taken ≡ b → length (assigned taken (p ∷ ps)) ≤ free taken np
+  few_step : (p : Pair) (ps : List Pair) (taken : List Match) → p.spot < np → length (assigned taken ps) ≤ free taken np
+      → length (assigned (match_of p ∷ taken) ps) ≤ free (match_of p ∷ taken) np → (b : Bool) → clashes p taken ≡ b → length (assigned taken (p ∷ ps)) ≤ free taken np
   unfolding assigned
-  few-step p ps taken h one two true e = rw e one
-  few-step p ps taken h one two false e = rw e (omega (arith, two, one_less (match-of p) taken np h (spot-free p taken e)))
+  few_step p ps taken h one two true e = rw e one
+  few_step p ps taken h one two false e = rw e (omega (arith, two, one_less (match_of p) taken np h (spot_free p taken e)))
 
-  few-assigned : (ps : List Pair) (taken : List Match) → All (Inside np nq) ps → length (assigned taken ps) ≤ free taken np
+  few_assigned : (ps : List Pair) (taken : List Match) → All (Inside np nq) ps → length (assigned taken ps) ≤ free taken np
   unfolding assigned
-  few-assigned l taken none = omega arith
-  few-assigned l taken (more p ps h rest) =
-      few-step p ps taken h.0 (few-assigned ps taken rest) (few-assigned ps (match-of p ∷ taken) rest) (clashes p taken) refl
+  few_assigned l taken none = omega arith
+  few_assigned l taken (more p ps h rest) =
+      few_step p ps taken h.0 (few_assigned ps taken rest) (few_assigned ps (match_of p ∷ taken) rest) (clashes p taken) refl
 
-pub few-matches : (points : List Float) (limit : ℕ) (predicted : List Float) (r2 : Float) → length (matchesOf points limit predicted r2) ≤ spotsWithin points limit
-unfolding matchesOf pairs
-few-matches points limit predicted r2 =
-    let np = spotsWithin points limit in
+pub few_matches : (points : List Float) (limit : ℕ) (predicted : List Float) (r2 : Float) → length (matches_of points limit predicted r2) ≤ spots_within points limit
+unfolding matches_of pairs
+few_matches points limit predicted r2 =
+    let np = spots_within points limit in
     let nq = length predicted / 2 in
-    let ps = pairsFrom r2 points predicted 0 np in
-    let inside : All (Inside np nq) (merged notAfter ps) = all-merged notAfter (Inside np nq) ps (pairs-inside np r2 points predicted np 0 (omega arith)) in
-    omega (arith, few-assigned np nq (merged notAfter ps) [] inside, free-none np)
+    let ps = pairs_from r2 points predicted 0 np in
+    let inside : All (Inside np nq) (merged not_after ps) = all_merged not_after (Inside np nq) ps (pairs_inside np r2 points predicted np 0 (omega arith)) in
+    omega (arith, few_assigned np nq (merged not_after ps) [] inside, free_none np)
 
-pub length-renamed : (qs : List Prediction) (ms : List Match) → length (renamed qs ms) ≡ 2 * length ms
+pub length_renamed : (qs : List Prediction) (ms : List Match) → length (renamed qs ms) ≡ 2 * length ms
 unfolding renamed
-length-renamed qs [] = refl
-length-renamed qs (m ∷ ms) = omega (arith, length-renamed qs ms)
+length_renamed qs [] = refl
+length_renamed qs (m ∷ ms) = omega (arith, length_renamed qs ms)

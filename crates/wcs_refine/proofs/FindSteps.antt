@@ -3,23 +3,23 @@ use Rattle.std.proofs.Common.{◌≡◌, ℕ, ◌+◌, ◌-◌, ◌*◌, ◌/◌
 use lib.ListN.{length-replicate, get_or-replicate, replicate-append-replicate, get_or-append}
 use lib.Seq.{slice, length-slice}
 use lib.Ieee.{Float}
-use Rattle.pairs.specs.Pairs.{pairs, spotsWithin}
-use Rattle.matching.specs.Merge.{notAfter}
+use Rattle.pairs.specs.Pairs.{pairs, spots_within}
+use Rattle.matching.specs.Merge.{not_after}
 use Rattle.matching.specs.Comparisons.{comparisons}
-use Rattle.matching.specs.Greedy.{Match, flat, matchesOf, placed, overfull, Outcome, greedyUniqueMatches, greedyByStrips}
+use Rattle.matching.specs.Greedy.{Match, flat, matches_of, placed, overfull, Outcome, greedy_unique_matches, greedy_by_strips}
 use Rattle.pairs.specs.Candidates.{capacity}
 use Rattle.matching.specs.declared.Matched.{Matched}
 use Rattle.matching.specs.declared.Matched.TheVariants.{Matches, TooMany}
-use Rattle.wcs_refine.specs.Listing.{renamedBy}
+use Rattle.wcs_refine.specs.Listing.{renamed_by}
 use Rattle.wcs_refine.specs.Comparing.{NewAt}
-use Rattle.wcs_refine.proofs.FewMatches.{few-matches}
-use Rattle.matching.proofs.Calls.{flat-many}
-use Rattle.wcs_refine.proofs.NewMatches.{renamed-many}
+use Rattle.wcs_refine.proofs.FewMatches.{few_matches}
+use Rattle.matching.proofs.Calls.{flat_many}
+use Rattle.wcs_refine.proofs.NewMatches.{renamed_many}
 
 -- ---- parts of lists
 
-pub part-is : {A : Type 0} (a e : ℕ) (l : List A) → a ≤ e → e ≤ length l → take (e - a) (drop a l) ≡ slice a e l
-part-is {A} a e l h fits =
+pub part_is : {A : Type 0} (a e : ℕ) (l : List A) → a ≤ e → e ≤ length l → take (e - a) (drop a l) ≡ slice a e l
+part_is {A} a e l h fits =
     let s : e ≡ a + (e - a) = omega arith in
     sym
     (ap (λ (k : ℕ). drop a (take k l)) s ∙ ap (drop a) (take-add a (e - a) l)
@@ -37,8 +37,8 @@ slice_front {A} a e n l m h same =
 
 -- ---- the matcher's answer
 
-abbrev outcomeOf : Matched → ℕ → List Float → List ℕ → List ℕ → Outcome
-outcomeOf x m d ix w = record { answer = x; comparisons = m; distances = d; indices = ix; work = w }
+abbrev outcome_of : Matched → ℕ → List Float → List ℕ → List ℕ → Outcome
+outcome_of x m d ix w = record { answer = x; comparisons = m; distances = d; indices = ix; work = w }
 
 module _ (n q : ℕ) (spots : List Float) (limit : ℕ) (floats : List Float) (r2 : Float) (d : List Float) (ix o : List ℕ)
     (room : length spots / 2 + q ≤ n) (many : 16 * n ≤ length o) (far : 16 * n ≤ length floats) where
@@ -49,58 +49,58 @@ module _ (n q : ℕ) (spots : List Float) (limit : ℕ) (floats : List Float) (r
   work = take (8 * n - 4 * n) (drop (4 * n) o)
 
   abbrev within : ℕ
-  within = spotsWithin spots limit
+  within = spots_within spots limit
 
   abbrev found : List Match
-  found = matchesOf spots limit points r2
+  found = matches_of spots limit points r2
 
   -- the comparisons that put its pairs in order
   abbrev compared : ℕ
-  compared = comparisons notAfter (pairs spots limit points r2)
+  compared = comparisons not_after (pairs spots limit points r2)
 
   abbrev over : Bool
   over = ltb (capacity d ix) (length (pairs spots limit points r2))
 
-  points-many : length points / 2 ≡ q
-  points-many = omega (arith, length-slice (2 * n) (2 * n + 2 * q) floats (omega arith))
+  points_many : length points / 2 ≡ q
+  points_many = omega (arith, length-slice (2 * n) (2 * n + 2 * q) floats (omega arith))
 
-  work-many : length work ≡ 4 * n
-  work-many = omega (arith, length-take (8 * n - 4 * n) (drop (4 * n) o), length-drop (4 * n) o)
+  work_many : length work ≡ 4 * n
+  work_many = omega (arith, length-take (8 * n - 4 * n) (drop (4 * n) o), length-drop (4 * n) o)
 
   -- the places behind the strips, and what stands in front of them in the end
   abbrev inner : List ℕ
   inner = drop (2 * within) work
 
-  abbrev behindStrips : Outcome → Outcome
-  behindStrips z = outcomeOf z.answer z.comparisons z.distances z.indices (replicate (2 * within) 0 ++ z.work)
+  abbrev behind_strips : Outcome → Outcome
+  behind_strips z = outcome_of z.answer z.comparisons z.distances z.indices (replicate (2 * within) 0 ++ z.work)
 
   abbrev fitted : Outcome
   fitted = placed (within + length points / 2) (length (pairs spots limit points r2)) compared found d ix inner
 
   module _ {x : Matched} {m : ℕ} {d' : List Float} {ix' w : List ℕ}
-      (did : outcomeOf x m d' ix' w ≡ greedyByStrips spots limit (take (2 * n + 2 * q - 2 * n) (drop (2 * n) floats)) r2 d ix work) where
+      (did : outcome_of x m d' ix' w ≡ greedy_by_strips spots limit (take (2 * n + 2 * q - 2 * n) (drop (2 * n) floats)) r2 d ix work) where
     enough : 2 * within + (within + length points / 2 + 2 * min within (length points / 2)) ≤ length work
-    enough = omega (arith, points-many, work-many)
+    enough = omega (arith, points_many, work_many)
 
-    told : outcomeOf x m d' ix' w ≡ behindStrips (cond over (overfull d ix inner) fitted)
-    unfolding greedyByStrips greedyUniqueMatches
+    told : outcome_of x m d' ix' w ≡ behind_strips (cond over (overfull d ix inner) fitted)
+    unfolding greedy_by_strips greedy_unique_matches
     told =
-        did ∙ ap (λ (z : List Float). greedyByStrips spots limit z r2 d ix work) (part-is (2 * n) (2 * n + 2 * q) floats (omega arith) (omega arith))
-        ∙ ap (λ (b : Bool). cond b (outcomeOf Matched.Short 0 d ix work) (behindStrips (greedyUniqueMatches spots limit points r2 d ix inner)))
+        did ∙ ap (λ (z : List Float). greedy_by_strips spots limit z r2 d ix work) (part_is (2 * n) (2 * n + 2 * q) floats (omega arith) (omega arith))
+        ∙ ap (λ (b : Bool). cond b (outcome_of Matched.Short 0 d ix work) (behind_strips (greedy_unique_matches spots limit points r2 d ix inner)))
         (le-ltb (length work) (2 * within + (within + length points / 2 + 2 * min within (length points / 2))) enough)
-        ∙ ap (λ (b : Bool). behindStrips (cond b (outcomeOf Matched.Short 0 d ix inner) (cond over (overfull d ix inner) fitted)))
+        ∙ ap (λ (b : Bool). behind_strips (cond b (outcome_of Matched.Short 0 d ix inner) (cond over (overfull d ix inner) fitted)))
         (le-ltb (length inner) (within + length points / 2 + 2 * min within (length points / 2)) (omega (arith, enough, length-drop (2 * within) work)))
 
-    if-over : over ≡ true → x ≡ TooMany
+    if_over : over ≡ true → x ≡ TooMany
     unfolding overfull
-    if-over e = ap (λ (z : Outcome). z.answer) (told ∙ ap (λ (b : Bool). behindStrips (cond b (overfull d ix inner) fitted)) e)
+    if_over e = ap (λ (z : Outcome). z.answer) (told ∙ ap (λ (b : Bool). behind_strips (cond b (overfull d ix inner) fitted)) e)
 
-    if-fits : over ≡ false → outcomeOf x m d' ix' w ≡ behindStrips fitted
-    if-fits e = told ∙ ap (λ (b : Bool). behindStrips (cond b (overfull d ix inner) fitted)) e
+    if_fits : over ≡ false → outcome_of x m d' ix' w ≡ behind_strips fitted
+    if_fits e = told ∙ ap (λ (b : Bool). behind_strips (cond b (overfull d ix inner) fitted)) e
 
-    fits-answer : over ≡ false → x ≡ Matches (length found)
+    fits_answer : over ≡ false → x ≡ Matches (length found)
     unfolding placed
-    fits-answer e = ap (λ (z : Outcome). z.answer) (if-fits e)
+    fits_answer e = ap (λ (z : Outcome). z.answer) (if_fits e)
 
     fits_work : over ≡ false → w ≡ replicate (3 * within + q) 0 ++ flat found ++ drop (within + q + 2 * length found) inner
     unfolding placed
@@ -108,8 +108,8 @@ module _ (n q : ℕ) (spots : List Float) (limit : ℕ) (floats : List Float) (r
         let marks : List ℕ = replicate (within + q) 0 in
         let rest = drop (within + q + 2 * length found) inner in
         let all : 2 * within + (within + q) ≡ 3 * within + q = omega arith in
-        ap (λ (z : Outcome). z.work) (if-fits e)
-        ∙ ap (λ (k : ℕ). replicate (2 * within) 0 ++ (replicate (within + k) 0 ++ flat found ++ drop (within + k + 2 * length found) inner)) points-many
+        ap (λ (z : Outcome). z.work) (if_fits e)
+        ∙ ap (λ (k : ℕ). replicate (2 * within) 0 ++ (replicate (within + k) 0 ++ flat found ++ drop (within + k + 2 * length found) inner)) points_many
         ∙ sym (append_assoc (replicate (2 * within) 0) (marks ++ flat found) rest)
         ∙ ap (λ (l : List ℕ). l ++ rest) (sym (append_assoc (replicate (2 * within) 0) marks (flat found)))
         ∙ ap (λ (l : List ℕ). l ++ flat found ++ rest) (replicate-append-replicate (2 * within) (within + q) 0)
@@ -121,39 +121,39 @@ module _ (n q : ℕ) (spots : List Float) (limit : ℕ) (floats : List Float) (r
       where
         by : (b : Bool) → over ≡ b → true ≡ b
         by true e = refl
-        by false e = absurd (h (length found) (fits-answer e))
+        by false e = absurd (h (length found) (fits_answer e))
 
     module _ {t : ℕ} (is : x ≡ Matches t) (kept : length w ≡ length work) where
-      pub not-over : false ≡ over
-      not-over = by over refl
+      pub not_over : false ≡ over
+      not_over = by over refl
         where
           by : (b : Bool) → over ≡ b → false ≡ b
-          by true e = let f : x ≡ TooMany = if-over e in let z : ◌≡◌ {A = ℕ} 0 1 = cc in absurd (omega arith)
+          by true e = let f : x ≡ TooMany = if_over e in let z : ◌≡◌ {A = ℕ} 0 1 = cc in absurd (omega arith)
           by false e = refl
 
-      pub count-is : t ≡ length found
-      count-is = let f : x ≡ Matches (length found) = fits-answer (sym not-over) in cc
+      pub count_is : t ≡ length found
+      count_is = let f : x ≡ Matches (length found) = fits_answer (sym not_over) in cc
 
-      pub compared-is : m ≡ compared
+      pub compared_is : m ≡ compared
       unfolding placed
-      compared-is = ap (λ (z : Outcome). z.comparisons) (if-fits (sym not-over))
+      compared_is = ap (λ (z : Outcome). z.comparisons) (if_fits (sym not_over))
 
       -- how far the matches reach
       pub reach : 3 * within + q + 2 * t ≤ 4 * n
       reach =
-          let e = fits_work (sym not-over) in
+          let e = fits_work (sym not_over) in
           omega (
             arith,
-            count-is,
+            count_is,
             kept,
-            work-many,
+            work_many,
             ap length e,
             length-append (replicate (3 * within + q) 0 ++ flat found) (drop (within + q + 2 * length found) inner),
             length-append (replicate (3 * within + q) 0) (flat found),
             length-replicate {A = ℕ} (3 * within + q) 0,
             length-drop (within + q + 2 * length found) inner,
             length-drop (2 * within) work,
-            flat-many found,
+            flat_many found,
           )
 
       -- the list with the matcher's part back in its place
@@ -166,7 +166,7 @@ module _ (n q : ℕ) (spots : List Float) (limit : ℕ) (floats : List Float) (r
               length-append (take (4 * n) o) (w ++ drop (8 * n - 4 * n) (drop (4 * n) o)),
               length-append w (drop (8 * n - 4 * n) (drop (4 * n) o)),
               kept,
-              work-many,
+              work_many,
               length-take (4 * n) o,
               length-drop (8 * n - 4 * n) (drop (4 * n) o),
               length-drop (4 * n) o,
@@ -175,30 +175,30 @@ module _ (n q : ℕ) (spots : List Float) (limit : ℕ) (floats : List Float) (r
         abbrev behind : List ℕ
         behind = drop (within + q + 2 * length found) inner ++ drop (8 * n - 4 * n) (drop (4 * n) o)
 
-        front-many : length (take (4 * n) o) ≡ 4 * n
-        front-many = length-take-le (4 * n) o (omega arith)
+        front_many : length (take (4 * n) o) ≡ 4 * n
+        front_many = length-take-le (4 * n) o (omega arith)
 
         front_same : take (4 * n) o' ≡ take (4 * n) o
-        front_same = ap (take (4 * n)) back ∙ take_at (take (4 * n) o) _ (4 * n) front-many
+        front_same = ap (take (4 * n)) back ∙ take_at (take (4 * n) o) _ (4 * n) front_many
 
         apart : o' ≡ take (4 * n) o ++ replicate (3 * within + q) 0 ++ flat found ++ behind
-        apart = back ∙ ap (λ (l : List ℕ). take (4 * n) o ++ (l ++ drop (8 * n - 4 * n) (drop (4 * n) o))) (fits_work (sym not-over)) ∙ simp append_assoc
+        apart = back ∙ ap (λ (l : List ℕ). take (4 * n) o ++ (l ++ drop (8 * n - 4 * n) (drop (4 * n) o))) (fits_work (sym not_over)) ∙ simp append_assoc
 
-        marks-many : length (take (4 * n) o ++ replicate (3 * within + q) 0) ≡ 4 * n + 3 * within + q
-        marks-many = omega (arith, length-append (take (4 * n) o) (replicate (3 * within + q) 0), front-many, length-replicate {A = ℕ} (3 * within + q) 0)
+        marks_many : length (take (4 * n) o ++ replicate (3 * within + q) 0) ≡ 4 * n + 3 * within + q
+        marks_many = omega (arith, length-append (take (4 * n) o) (replicate (3 * within + q) 0), front_many, length-replicate {A = ℕ} (3 * within + q) 0)
 
-        matches-there : slice (4 * n + 3 * within + q) (4 * n + 3 * within + q + 2 * t) o' ≡ flat found
-        matches-there =
+        matches_there : slice (4 * n + 3 * within + q) (4 * n + 3 * within + q + 2 * t) o' ≡ flat found
+        matches_there =
             ap (λ (l : List ℕ). slice (4 * n + 3 * within + q) (4 * n + 3 * within + q + 2 * t) l) apart
-            ∙ slice_at (take (4 * n) o ++ replicate (3 * within + q) 0) (flat found) behind (4 * n + 3 * within + q) (2 * t) marks-many (omega (arith, flat-many found, count-is))
+            ∙ slice_at (take (4 * n) o ++ replicate (3 * within + q) 0) (flat found) behind (4 * n + 3 * within + q) (2 * t) marks_many (omega (arith, flat_many found, count_is))
 
-        zero-there : (s : ℕ) → s < within → get_or o' (4 * n + s) 0 ≡ 0
-        zero-there s h =
+        zero_there : (s : ℕ) → s < within → get_or o' (4 * n + s) 0 ≡ 0
+        zero_there s h =
             let p : s < length (replicate {A = ℕ} (3 * within + q) 0) = omega (arith, length-replicate {A = ℕ} (3 * within + q) 0) in
-            let u : 4 * n + s < length (take (4 * n) o ++ replicate (3 * within + q) 0) = omega (arith, marks-many) in
+            let u : 4 * n + s < length (take (4 * n) o ++ replicate (3 * within + q) 0) = omega (arith, marks_many) in
             let v : 4 * n + s < length (take (4 * n) o ++ replicate (3 * within + q) 0 ++ flat found) =
-            omega (arith, marks-many, length-append (take (4 * n) o ++ replicate (3 * within + q) 0) (flat found)) in
-            let e : 4 * n + s ≡ length (take (4 * n) o) + s = omega (arith, front-many) in
+            omega (arith, marks_many, length-append (take (4 * n) o ++ replicate (3 * within + q) 0) (flat found)) in
+            let e : 4 * n + s ≡ length (take (4 * n) o) + s = omega (arith, front_many) in
             ap (λ (l : List ℕ). get_or l (4 * n + s) 0) apart
             ∙ get_or-append (take (4 * n) o ++ replicate (3 * within + q) 0 ++ flat found) behind 0 (4 * n + s) v
             ∙ get_or-append (take (4 * n) o ++ replicate (3 * within + q) 0) (flat found) 0 (4 * n + s) u
@@ -209,37 +209,37 @@ module _ (n q : ℕ) (spots : List Float) (limit : ℕ) (floats : List Float) (r
         abbrev ids : List ℕ
         ids = slice (3 * n) (3 * n + q) o
 
-        ids-same : slice (3 * n) (3 * n + q) o' ≡ ids
-        ids-same = slice_front (3 * n) (3 * n + q) (4 * n) o' o (omega arith) front_same
+        ids_same : slice (3 * n) (3 * n + q) o' ≡ ids
+        ids_same = slice_front (3 * n) (3 * n + q) (4 * n) o' o (omega arith) front_same
 
         -- and after the renaming
-        new-there : {after : List ℕ} → length after ≡ length o'
-            → after ≡ take (8 * n) o' ++ renamedBy (slice (3 * n) (3 * n + q) o') (slice (4 * n + 3 * within + q) (4 * n + 3 * within + q + 2 * t) o') ++ drop (8 * n + 2 * t) o'
-            → NewAt n within t (renamedBy ids (flat found)) o after
-        new-there {after} same e =
-            let new = renamedBy ids (flat found) in
+        new_there : {after : List ℕ} → length after ≡ length o'
+            → after ≡ take (8 * n) o' ++ renamed_by (slice (3 * n) (3 * n + q) o') (slice (4 * n + 3 * within + q) (4 * n + 3 * within + q + 2 * t) o') ++ drop (8 * n + 2 * t) o'
+            → NewAt n within t (renamed_by ids (flat found)) o after
+        new_there {after} same e =
+            let new = renamed_by ids (flat found) in
             let f : after ≡ take (8 * n) o' ++ new ++ drop (8 * n + 2 * t) o' =
-            e ∙ ap (λ (l : List ℕ). take (8 * n) o' ++ renamedBy l (slice (4 * n + 3 * within + q) (4 * n + 3 * within + q + 2 * t) o') ++ drop (8 * n + 2 * t) o') ids-same
-            ∙ ap (λ (l : List ℕ). take (8 * n) o' ++ renamedBy ids l ++ drop (8 * n + 2 * t) o') matches-there in
+            e ∙ ap (λ (l : List ℕ). take (8 * n) o' ++ renamed_by l (slice (4 * n + 3 * within + q) (4 * n + 3 * within + q + 2 * t) o') ++ drop (8 * n + 2 * t) o') ids_same
+            ∙ ap (λ (l : List ℕ). take (8 * n) o' ++ renamed_by ids l ++ drop (8 * n + 2 * t) o') matches_there in
             let before : length (take (8 * n) o') ≡ 8 * n = length-take-le (8 * n) o' (omega (arith, long)) in
             let first : take (8 * n) after ≡ take (8 * n) o' =
             ap (take (8 * n)) (f ∙ append_assoc (take (8 * n) o') new (drop (8 * n + 2 * t) o')) ∙ take_at (take (8 * n) o') (new ++ drop (8 * n + 2 * t) o') (8 * n) before in
             let half : 4 * n ≤ 8 * n = omega arith in
             record {
-              room = omega (arith, count-is, few-matches spots limit points r2);
+              room = omega (arith, count_is, few_matches spots limit points r2);
               long = same ∙ long;
               front = sym (take-take (4 * n) (8 * n) after half) ∙ ap (take (4 * n)) first ∙ take-take (4 * n) (8 * n) o' half ∙ front_same;
               zeros = λ s h.
                   let p : 4 * n + s < 8 * n = omega arith in
-                  sym (get_or-take (8 * n) after (4 * n + s) 0 p) ∙ ap (λ (l : List ℕ). get_or l (4 * n + s) 0) first ∙ get_or-take (8 * n) o' (4 * n + s) 0 p ∙ zero-there s h;
+                  sym (get_or-take (8 * n) after (4 * n + s) 0 p) ∙ ap (λ (l : List ℕ). get_or l (4 * n + s) 0) first ∙ get_or-take (8 * n) o' (4 * n + s) 0 p ∙ zero_there s h;
               list = ap (λ (l : List ℕ). slice (8 * n) (8 * n + 2 * t) l) f
-                  ∙ slice_at (take (8 * n) o') new (drop (8 * n + 2 * t) o') (8 * n) (2 * t) before (omega (arith, renamed-many ids found, count-is));
+                  ∙ slice_at (take (8 * n) o') new (drop (8 * n + 2 * t) o') (8 * n) (2 * t) before (omega (arith, renamed_many ids found, count_is));
             }
 
-        pub found-there : {v : ℕ} {after : List ℕ} → v ≡ within → length after ≡ length o'
-            → after ≡ take (8 * n) o' ++ renamedBy (slice (3 * n) (3 * n + q) o') (slice (4 * n + 3 * v + q) (4 * n + 3 * v + q + 2 * t) o') ++ drop (8 * n + 2 * t) o'
-            → NewAt n v t (renamedBy ids (flat found)) o after
-        found-there {v} {after} u same e =
-            subst (λ (k : ℕ). NewAt n k t (renamedBy ids (flat found)) o after) (sym u)
-            (new-there same
-            (e ∙ ap (λ (k : ℕ). take (8 * n) o' ++ renamedBy (slice (3 * n) (3 * n + q) o') (slice (4 * n + 3 * k + q) (4 * n + 3 * k + q + 2 * t) o') ++ drop (8 * n + 2 * t) o') u))
+        pub found_there : {v : ℕ} {after : List ℕ} → v ≡ within → length after ≡ length o'
+            → after ≡ take (8 * n) o' ++ renamed_by (slice (3 * n) (3 * n + q) o') (slice (4 * n + 3 * v + q) (4 * n + 3 * v + q + 2 * t) o') ++ drop (8 * n + 2 * t) o'
+            → NewAt n v t (renamed_by ids (flat found)) o after
+        found_there {v} {after} u same e =
+            subst (λ (k : ℕ). NewAt n k t (renamed_by ids (flat found)) o after) (sym u)
+            (new_there same
+            (e ∙ ap (λ (k : ℕ). take (8 * n) o' ++ renamed_by (slice (3 * n) (3 * n + q) o') (slice (4 * n + 3 * k + q) (4 * n + 3 * k + q + 2 * t) o') ++ drop (8 * n + 2 * t) o') u))

@@ -3,22 +3,22 @@ use Rattle.std.proofs.Common.{◌≡◌, ℕ, ◌+◌, ◌-◌, ◌*◌, ◌/◌
 use lib.Seq.{slice}
 use lib.Ieee.{Float}
 use Rattle.lists.specs.Fronted.{fronted}
-use Rattle.pairs.specs.Pairs.{spotsWithin}
-use Rattle.panel.specs.Points.{coordinates, withinLimit, pointsOf}
-use Rattle.panel.proofs.Laying.{coordinates-many}
+use Rattle.pairs.specs.Pairs.{spots_within}
+use Rattle.panel.specs.Points.{coordinates, within_limit, points_of}
+use Rattle.panel.proofs.Laying.{coordinates_many}
 use Rattle.entry.specs.declared.Settings.{Settings}
-use Rattle.entry.specs.Entry.{fixedOf}
+use Rattle.entry.specs.Entry.{fixed_of}
 use Rattle.query.specs.declared.Held.{Held}
 use Rattle.query.specs.Query.{Prediction}
 use Rattle.wcs_refine.specs.Round.{associated, compared}
-use Rattle.wcs_refine.specs.Keeping.{heldCache, heldMatches, PointsAt, Predicted, AssociatedTo}
+use Rattle.wcs_refine.specs.Keeping.{held_cache, held_matches, PointsAt, Predicted, AssociatedTo}
 use Rattle.wcs_refine.specs.declared.associating.Step.{Step}
-use Rattle.wcs_refine.proofs.FindSteps.{part-is, slice_at, slice_front}
+use Rattle.wcs_refine.proofs.FindSteps.{part_is, slice_at, slice_front}
 
 -- The matcher looks at all of the points.
-pub points-within : (spots : List Float) (limit : ℕ) → spotsWithin (pointsOf spots limit) limit ≡ withinLimit spots limit
-unfolding pointsOf
-points-within spots limit = omega (arith, coordinates-many spots 0 (withinLimit spots limit))
+pub points_within : (spots : List Float) (limit : ℕ) → spots_within (points_of spots limit) limit ≡ within_limit spots limit
+unfolding points_of
+points_within spots limit = omega (arith, coordinates_many spots 0 (within_limit spots limit))
 
 -- The list with a part of it, just long enough for the points of k spots, laid out and back in its place.
 module _ (spots floats : List Float) (to k : ℕ) (fits : to + 2 * k ≤ length floats) where
@@ -28,15 +28,15 @@ module _ (spots floats : List Float) (to k : ℕ) (fits : to + 2 * k ≤ length 
   abbrev rest : List Float
   rest = drop (to + 2 * k - to) (drop to floats)
 
-  part-long : length part ≡ 2 * k
-  part-long = omega (arith, length-take (to + 2 * k - to) (drop to floats), length-drop to floats)
+  part_long : length part ≡ 2 * k
+  part_long = omega (arith, length-take (to + 2 * k - to) (drop to floats), length-drop to floats)
 
   pub laid_out : {w after : List Float} → w ≡ fronted (coordinates spots 0 (min k (length part / 2))) part
       → after ≡ take to floats ++ (w ++ rest) → PointsAt spots k to floats after
   laid_out {w} {after} did back =
-      let all : min k (length part / 2) ≡ k = omega (arith, part-long) in
-      let many : length (coordinates spots 0 k) ≡ 2 * k = coordinates-many spots 0 k in
-      let past : length part ≤ length (coordinates spots 0 k) = omega (arith, many, part-long) in
+      let all : min k (length part / 2) ≡ k = omega (arith, part_long) in
+      let many : length (coordinates spots 0 k) ≡ 2 * k = coordinates_many spots 0 k in
+      let past : length part ≤ length (coordinates spots 0 k) = omega (arith, many, part_long) in
       let none : drop (length (coordinates spots 0 k)) part ≡ [] = drop_of_length-le part past in
       let is : w ≡ coordinates spots 0 k =
       did ∙ ap (λ (j : ℕ). fronted (coordinates spots 0 j) part) all
@@ -63,26 +63,26 @@ module _ (spots floats : List Float) (to k : ℕ) (fits : to + 2 * k ≤ length 
 
 -- ---- the matcher on the points, which stand in their regions
 
-pub laid-associated : (k : Settings) (n q within : ℕ) (floats : List Float) (h : Held) (r : Float) (before after : List ℕ) (s : Step)
+pub laid_associated : (k : Settings) (n q within : ℕ) (floats : List Float) (h : Held) (r : Float) (before after : List ℕ) (s : Step)
     → 4 * n + 2 * within ≤ length floats
     → AssociatedTo k n (take (4 * n + 2 * within - 4 * n) (drop (4 * n) floats)) h r q before floats after s
     → AssociatedTo k n (slice (4 * n) (4 * n + 2 * within) floats) h r q before floats after s
-laid-associated k n q within floats h r before after s fits a =
-    subst (λ (l : List Float). AssociatedTo k n l h r q before floats after s) (part-is (4 * n) (4 * n + 2 * within) floats (omega arith) fits) a
+laid_associated k n q within floats h r before after s fits a =
+    subst (λ (l : List Float). AssociatedTo k n l h r q before floats after s) (part_is (4 * n) (4 * n + 2 * within) floats (omega arith) fits) a
 
-pub spots-associated : (k : Settings) (n q within : ℕ) (spots floats laid : List Float) (h : Held) (r : Float) (before after : List ℕ) (s : Step) → q ≤ n
-    → within ≡ withinLimit spots k.limit → PointsAt spots within (4 * n) floats laid
+pub spots_associated : (k : Settings) (n q within : ℕ) (spots floats laid : List Float) (h : Held) (r : Float) (before after : List ℕ) (s : Step) → q ≤ n
+    → within ≡ within_limit spots k.limit → PointsAt spots within (4 * n) floats laid
     → AssociatedTo k n (slice (4 * n) (4 * n + 2 * within) laid) h r q before laid after s
-    → AssociatedTo k n (pointsOf spots k.limit) h r q before floats after s
-unfolding pointsOf
-spots-associated k n q within spots floats laid h r before after s few e p a =
-    let same : slice (4 * n) (4 * n + 2 * within) laid ≡ coordinates spots 0 (withinLimit spots k.limit) = p.points ∙ ap (coordinates spots 0) e in
+    → AssociatedTo k n (points_of spots k.limit) h r q before floats after s
+unfolding points_of
+spots_associated k n q within spots floats laid h r before after s few e p a =
+    let same : slice (4 * n) (4 * n + 2 * within) laid ≡ coordinates spots 0 (within_limit spots k.limit) = p.points ∙ ap (coordinates spots 0) e in
     let there : (qs : List Prediction) → Predicted n q before floats qs → Predicted n q before laid qs =
     λ qs w. record { ids = w.ids; points = w.points ∙ sym (p.front (2 * n) (2 * n + 2 * q) (omega arith)) } in
     record {
       next = λ qs w.
           a.next qs (there qs w)
-          ∙ ap (λ (l : List Float). associated (fixedOf k) l h.pose (heldMatches h before) (heldCache n h before) r qs) same;
-      comparisons = λ qs w. a.comparisons qs (there qs w) ∙ ap (λ (l : List Float). compared (fixedOf k) l r qs) same;
+          ∙ ap (λ (l : List Float). associated (fixed_of k) l h.pose (held_matches h before) (held_cache n h before) r qs) same;
+      comparisons = λ qs w. a.comparisons qs (there qs w) ∙ ap (λ (l : List Float). compared (fixed_of k) l r qs) same;
       fits = a.fits;
     }

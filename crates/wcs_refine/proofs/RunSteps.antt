@@ -3,25 +3,25 @@ use Rattle.std.proofs.Common.{◌≡◌, ℕ, zero, suc, ◌+◌, ◌-◌, ◌/�
 use lib.Ieee.{Float}
 use Rattle.rounding.specs.Arith.{◌⊗◌}
 use Rattle.pairs.specs.Pairs.{pairs}
-use Rattle.matching.specs.Greedy.{matchesOf}
-use Rattle.project.specs.Camera.{boresight, cameraRows}
-use Rattle.fit.specs.Normal.{lsFitOnce}
-use Rattle.fit.specs.Rows.{Row, rows, viewOf}
+use Rattle.matching.specs.Greedy.{matches_of}
+use Rattle.project.specs.Camera.{boresight, camera_rows}
+use Rattle.fit.specs.Normal.{ls_fit_once}
+use Rattle.fit.specs.Rows.{Row, rows, view_of}
 use Rattle.residuals.specs.Residual.{residuals}
 use Rattle.fit.specs.declared.Pose.{Pose}
 use Rattle.solve.specs.declared.Solution.{Solution}
 use Rattle.solve.specs.declared.Solution.TheVariants.{Solved, Failed}
 use Rattle.entry.specs.declared.Settings.{Settings}
 use Rattle.entry.specs.Fixed.{Fixed}
-use Rattle.entry.specs.Entry.{fixedOf}
-use Rattle.passes.specs.Fit.{moved, sound, still, Passes, goesOn, passed, fitPasses}
+use Rattle.entry.specs.Entry.{fixed_of}
+use Rattle.passes.specs.Fit.{moved, sound, still, Passes, goes_on, passed, fit_passes}
 use Rattle.wcs_refine.specs.Clip.{statistics, clipped}
 use Rattle.query.specs.Query.{query, Cache, empty, full, drifted, Prediction, predictions, pruned}
-use Rattle.panel.specs.Points.{pointsOf}
-use Rattle.wcs_refine.specs.Associate.{adaptivePx, laid, renamed, sameMatches}
+use Rattle.panel.specs.Points.{points_of}
+use Rattle.wcs_refine.specs.Associate.{adaptive_px, laid, renamed, same_matches}
 use Rattle.wcs_refine.specs.Round.{State, Next, go, done, refuse, Found, Round, settled, associated, fresh, reused, searched, rest, fitted, round, Ending, refused, ended, Run, carry, loop}
-use Rattle.wcs_refine.specs.Keeping.{heldState, Fits, nextOf, RoundTo, endingOf, RanTo}
-use Rattle.wcs_refine.specs.Stepping.{stopped, refusalOf}
+use Rattle.wcs_refine.specs.Keeping.{held_state, Fits, next_of, RoundTo, ending_of, RanTo}
+use Rattle.wcs_refine.specs.Stepping.{stopped, refusal_of}
 use Rattle.query.specs.declared.Held.{Held}
 use Rattle.wcs_refine.specs.declared.keeping.Verdict.{Verdict}
 use Rattle.wcs_refine.specs.declared.keeping.Verdict.TheVariants.{GoOn, Done, Refused}
@@ -31,24 +31,24 @@ use Rattle.wcs_refine.proofs.Along.{either}
 
 -- ---- at most so many passes as are asked for
 
-one_more : (n : ℕ) (b c : Bool) (q : Pose) (after : Pose → Passes) → (after q).passes ≤ n → (goesOn b c q after).passes ≤ suc n
-unfolding goesOn
+one_more : (n : ℕ) (b c : Bool) (q : Pose) (after : Pose → Passes) → (after q).passes ≤ n → (goes_on b c q after).passes ≤ suc n
+unfolding goes_on
 one_more n false c q after h = omega arith
 one_more n true true q after h = omega arith
 one_more n true false q after h = omega arith
 
-solved-more : (n : ℕ) (p : Pose) (s : Solution) (after : Pose → Passes) → ((q : Pose) → (after q).passes ≤ n) → (passed p s after).passes ≤ suc n
+solved_more : (n : ℕ) (p : Pose) (s : Solution) (after : Pose → Passes) → ((q : Pose) → (after q).passes ≤ n) → (passed p s after).passes ≤ suc n
 unfolding passed
-solved-more n p Failed after h = omega arith
-solved-more n p (Solved a b c) after h = one_more n (sound (moved p a b c)) (still a b c) (moved p a b c) after (h (moved p a b c))
+solved_more n p Failed after h = omega arith
+solved_more n p (Solved a b c) after h = one_more n (sound (moved p a b c)) (still a b c) (moved p a b c) after (h (moved p a b c))
 
-few-passes : (n : ℕ) (cut : Float) (rs : List Row) (p : Pose) → (fitPasses n cut rs p).passes ≤ n
-unfolding fitPasses
-few-passes zero cut rs p = omega arith
-few-passes (suc n) cut rs p =
+few_passes : (n : ℕ) (cut : Float) (rs : List Row) (p : Pose) → (fit_passes n cut rs p).passes ≤ n
+unfolding fit_passes
+few_passes zero cut rs p = omega arith
+few_passes (suc n) cut rs p =
     either (λ (x : Passes). x.passes ≤ suc n) (ltb (length rs) 3) (record { pose = p; passes = 0; fine = true })
-    (passed p (lsFitOnce (viewOf p cut) rs) (λ q. fitPasses n cut rs q)) (omega arith)
-    (solved-more n p (lsFitOnce (viewOf p cut) rs) (λ q. fitPasses n cut rs q) (λ q. few-passes n cut rs q))
+    (passed p (ls_fit_once (view_of p cut) rs) (λ q. fit_passes n cut rs q)) (omega arith)
+    (solved_more n p (ls_fit_once (view_of p cut) rs) (λ q. fit_passes n cut rs q) (λ q. few_passes n cut rs q))
 
 -- ---- a refusal has a number, and a round makes at most one query
 
@@ -60,52 +60,52 @@ Lawful (refuse x) = 1 ≤ x
 abbrev Fair : Found → Type 0
 Fair f = Lawful f.next × (length f.queries ≤ 1)
 
-settled-lawful : (p : Pose) (ms : List ℕ) (c : Cache) (new : List ℕ) → Lawful (settled p ms c new)
+settled_lawful : (p : Pose) (ms : List ℕ) (c : Cache) (new : List ℕ) → Lawful (settled p ms c new)
 unfolding settled
-settled-lawful p ms c new =
-    either Lawful (leb 4 (length new / 2) && not (sameMatches new ms)) (go (record { pose = p; matches = new; cache = c })) (done (record { pose = p; matches = ms; cache = c })) tt tt
+settled_lawful p ms c new =
+    either Lawful (leb 4 (length new / 2) && not (same_matches new ms)) (go (record { pose = p; matches = new; cache = c })) (done (record { pose = p; matches = ms; cache = c })) tt tt
 
-associated-lawful : (k : Fixed) (ss : List Float) (p : Pose) (ms : List ℕ) (c : Cache) (r : Float) (qs : List Prediction) → Lawful (associated k ss p ms c r qs)
+associated_lawful : (k : Fixed) (ss : List Float) (p : Pose) (ms : List ℕ) (c : Cache) (r : Float) (qs : List Prediction) → Lawful (associated k ss p ms c r qs)
 unfolding associated
-associated-lawful k ss p ms c r qs =
-    let new = renamed qs (matchesOf ss k.limit (laid qs) (r ⊗ r)) in
-    either Lawful (ltb k.capacity (length (pairs ss k.limit (laid qs) (r ⊗ r)))) (refuse 13) (settled p ms c new) (omega arith) (settled-lawful p ms c new)
+associated_lawful k ss p ms c r qs =
+    let new = renamed qs (matches_of ss k.limit (laid qs) (r ⊗ r)) in
+    either Lawful (ltb k.capacity (length (pairs ss k.limit (laid qs) (r ⊗ r)))) (refuse 13) (settled p ms c new) (omega arith) (settled_lawful p ms c new)
 
 module _ (k : Fixed) (ss ds : List Float) (p : Pose) (ms : List ℕ) (r : Float) where
-  fresh-fair : (l : List ℕ) → Fair (fresh k ss ds p ms r l)
+  fresh_fair : (l : List ℕ) → Fair (fresh k ss ds p ms r l)
   unfolding fresh
-  fresh-fair l =
-      let rows = cameraRows p.theta p.ra p.dec in
-      (associated-lawful k (pointsOf ss k.limit) p ms (full (boresight p.ra p.dec) p.theta (pruned k ds rows l)) r (predictions k ds rows l), omega arith)
+  fresh_fair l =
+      let rows = camera_rows p.theta p.ra p.dec in
+      (associated_lawful k (points_of ss k.limit) p ms (full (boresight p.ra p.dec) p.theta (pruned k ds rows l)) r (predictions k ds rows l), omega arith)
 
-  reused-fair : (b : List Float) (theta : Float) (l : List ℕ) (t : Bool) → Fair (reused k ss ds p ms r b theta l t)
+  reused_fair : (b : List Float) (theta : Float) (l : List ℕ) (t : Bool) → Fair (reused k ss ds p ms r b theta l t)
   unfolding reused
-  reused-fair b theta l true = fresh-fair (query k ds p)
-  reused-fair b theta l false = (associated-lawful k (pointsOf ss k.limit) p ms (full b theta l) r (predictions k ds (cameraRows p.theta p.ra p.dec) l), omega arith)
+  reused_fair b theta l true = fresh_fair (query k ds p)
+  reused_fair b theta l false = (associated_lawful k (points_of ss k.limit) p ms (full b theta l) r (predictions k ds (camera_rows p.theta p.ra p.dec) l), omega arith)
 
-  searched-fair : (c : Cache) → Fair (searched k ss ds p ms r c)
+  searched_fair : (c : Cache) → Fair (searched k ss ds p ms r c)
   unfolding searched
-  searched-fair empty = fresh-fair (query k ds p)
-  searched-fair (full b theta l) = reused-fair b theta l (drifted k p b theta)
+  searched_fair empty = fresh_fair (query k ds p)
+  searched_fair (full b theta l) = reused_fair b theta l (drifted k p b theta)
 
-rest-fair : (k : Fixed) (ss ds : List Float) (p : Pose) (ms : List ℕ) (c : Cache) (rs : List Float) → Fair (rest k ss ds p ms c rs)
+rest_fair : (k : Fixed) (ss ds : List Float) (p : Pose) (ms : List ℕ) (c : Cache) (rs : List Float) → Fair (rest k ss ds p ms c rs)
 unfolding rest
-rest-fair k ss ds p ms c rs = searched-fair k ss ds p (clipped rs (statistics rs) ms) (adaptivePx k (statistics rs)) c
+rest_fair k ss ds p ms c rs = searched_fair k ss ds p (clipped rs (statistics rs) ms) (adaptive_px k (statistics rs)) c
 
-fitted-fair : (k : Fixed) (ss ds : List Float) (s : State) (rs : List Row) (f : Passes) → Fair (fitted k ss ds s rs f).found
+fitted_fair : (k : Fixed) (ss ds : List Float) (s : State) (rs : List Row) (f : Passes) → Fair (fitted k ss ds s rs f).found
 unfolding fitted
-fitted-fair k ss ds s rs f =
-    let es = residuals (viewOf f.pose k.cut) rs in
+fitted_fair k ss ds s rs f =
+    let es = residuals (view_of f.pose k.cut) rs in
     either Fair f.fine (rest k ss ds f.pose s.matches s.cache es) (record { next = refuse 12; queries = []; comparisons = 0 })
-    (rest-fair k ss ds f.pose s.matches s.cache es) (omega arith, omega arith)
+    (rest_fair k ss ds f.pose s.matches s.cache es) (omega arith, omega arith)
 
-round-fair : (k : Fixed) (ss ds : List Float) (s : State) → Fair (round k ss ds s).found
+round_fair : (k : Fixed) (ss ds : List Float) (s : State) → Fair (round k ss ds s).found
 unfolding round
-round-fair k ss ds s = fitted-fair k ss ds s (rows ss ds s.matches) (fitPasses 10 k.cut (rows ss ds s.matches) s.pose)
+round_fair k ss ds s = fitted_fair k ss ds s (rows ss ds s.matches) (fit_passes 10 k.cut (rows ss ds s.matches) s.pose)
 
-round-passes : (k : Fixed) (ss ds : List Float) (s : State) → (round k ss ds s).passes ≤ 10
+round_passes : (k : Fixed) (ss ds : List Float) (s : State) → (round k ss ds s).passes ≤ 10
 unfolding round fitted
-round-passes k ss ds s = few-passes 10 k.cut (rows ss ds s.matches) s.pose
+round_passes k ss ds s = few_passes 10 k.cut (rows ss ds s.matches) s.pose
 
 -- ---- the loop
 
@@ -137,79 +137,79 @@ same_counts f x y z = cc
 
 -- a round of x passes, the queries qs and y comparisons
 module _ (i p q m x y : ℕ) (qs : List (List ℕ)) (s : State) (f : State → Run) where
-  carry-on : (v : Verdict) → stopped v ≡ false → later (i + 1) (p + x) (q + length qs) (max m y) (f s) ≡ later i p q m (carry x qs y (nextOf v s) f)
-  unfolding stopped nextOf carry
-  carry-on GoOn h =
+  carry_on : (v : Verdict) → stopped v ≡ false → later (i + 1) (p + x) (q + length qs) (max m y) (f s) ≡ later i p q m (carry x qs y (next_of v s) f)
+  unfolding stopped next_of carry
+  carry_on GoOn h =
       let r = f s in
       let a : i + 1 + r.rounds ≡ i + suc r.rounds = omega arith in
       let b : p + x + r.passes ≡ p + (x + r.passes) = omega arith in
       let c : q + length qs + length r.queries ≡ q + length (qs ++ r.queries) = omega (arith, length-append qs r.queries) in
       let d : max (max m y) r.comparisons ≡ max m (max y r.comparisons) = omega arith in
       ends_same r.ending a b c d
-  carry-on Done h = absurd (true≢false h)
-  carry-on (Refused z) h = absurd (true≢false h)
+  carry_on Done h = absurd (true≢false h)
+  carry_on (Refused z) h = absurd (true≢false h)
 
-  refusal-ends : (z : ℕ) → 1 ≤ z → endingOf z s ≡ refused z
-  unfolding endingOf
-  refusal-ends zero h = let none : ⊥ = omega arith in absurd none
-  refusal-ends (suc z) h = refl
+  refusal_ends : (z : ℕ) → 1 ≤ z → ending_of z s ≡ refused z
+  unfolding ending_of
+  refusal_ends zero h = let none : ⊥ = omega arith in absurd none
+  refusal_ends (suc z) h = refl
 
-  carry-ends : (v : Verdict) → stopped v ≡ true → Lawful (nextOf v s)
-      → ends (endingOf (refusalOf v) s) (i + 1) (p + x) (q + length qs) (max m y) ≡ later i p q m (carry x qs y (nextOf v s) f)
-  unfolding stopped nextOf carry refusalOf endingOf
-  carry-ends GoOn h w = absurd (true≢false (sym h))
-  carry-ends Done h w = refl
-  carry-ends (Refused z) h w = ap (λ (e : Ending). ends e (i + 1) (p + x) (q + length qs) (max m y)) (refusal-ends z w)
+  carry_ends : (v : Verdict) → stopped v ≡ true → Lawful (next_of v s)
+      → ends (ending_of (refusal_of v) s) (i + 1) (p + x) (q + length qs) (max m y) ≡ later i p q m (carry x qs y (next_of v s) f)
+  unfolding stopped next_of carry refusal_of ending_of
+  carry_ends GoOn h w = absurd (true≢false (sym h))
+  carry_ends Done h w = refl
+  carry_ends (Refused z) h w = ap (λ (e : Ending). ends e (i + 1) (p + x) (q + length qs) (max m y)) (refusal_ends z w)
 
-loop-next : (k : Fixed) (ss ds : List Float) (n : ℕ) (s : State)
+loop_next : (k : Fixed) (ss ds : List Float) (n : ℕ) (s : State)
     → (let r = round k ss ds s in loop k ss ds (suc n) s ≡ carry r.passes r.found.queries r.found.comparisons r.found.next (λ t. loop k ss ds n t))
 unfolding loop
-loop-next k ss ds n s = refl
+loop_next k ss ds n s = refl
 
 -- ---- a turn: a round of h, whose lists stand in l, leaves s and after
 
 module _ (k : Settings) (n : ℕ) (ss ds : List Float) (h : Held) (l after : List ℕ) (s : Rounded) (d : RoundTo k n ss ds h l after s) where
-  pub turn-passes : s.passes ≤ 10
-  turn-passes = omega (arith, d.passes, round-passes (fixedOf k) ss ds (heldState n h l))
+  pub turn_passes : s.passes ≤ 10
+  turn_passes = omega (arith, d.passes, round_passes (fixed_of k) ss ds (held_state n h l))
 
-  pub turn-queries : s.queries ≤ 1
-  turn-queries = omega (arith, d.count, (round-fair (fixedOf k) ss ds (heldState n h l)).1)
+  pub turn_queries : s.queries ≤ 1
+  turn_queries = omega (arith, d.count, (round_fair (fixed_of k) ss ds (held_state n h l)).1)
 
-  turn-lawful : Lawful (nextOf s.verdict (heldState n s.held after))
-  turn-lawful = subst Lawful (sym d.next) (round-fair (fixedOf k) ss ds (heldState n h l)).0
+  turn_lawful : Lawful (next_of s.verdict (held_state n s.held after))
+  turn_lawful = subst Lawful (sym d.next) (round_fair (fixed_of k) ss ds (held_state n h l)).0
 
   module _ (most i p q m : ℕ) (less : i < most) {whole : Sums}
-      (left : later i p q m (loop (fixedOf k) ss ds (most - i) (heldState n h l)) ≡ whole) where
+      (left : later i p q m (loop (fixed_of k) ss ds (most - i) (held_state n h l)) ≡ whole) where
     abbrev this : Round
-    this = round (fixedOf k) ss ds (heldState n h l)
+    this = round (fixed_of k) ss ds (held_state n h l)
 
     -- the rounds after it
     abbrev onward : State → Run
-    onward t = loop (fixedOf k) ss ds (most - (i + 1)) t
+    onward t = loop (fixed_of k) ss ds (most - (i + 1)) t
 
     abbrev next : State
-    next = heldState n s.held after
+    next = held_state n s.held after
 
-    turn : later i p q m (carry this.passes this.found.queries this.found.comparisons (nextOf s.verdict next) onward) ≡ whole
+    turn : later i p q m (carry this.passes this.found.queries this.found.comparisons (next_of s.verdict next) onward) ≡ whole
     turn =
         let e : most - i ≡ suc (most - (i + 1)) = omega arith in
         ap (λ (x : Next). later i p q m (carry this.passes this.found.queries this.found.comparisons x onward)) d.next
-        ∙ ap (later i p q m) (sym (loop-next (fixedOf k) ss ds (most - (i + 1)) (heldState n h l)))
-        ∙ sym (ap (λ (x : ℕ). later i p q m (loop (fixedOf k) ss ds x (heldState n h l))) e) ∙ left
+        ∙ ap (later i p q m) (sym (loop_next (fixed_of k) ss ds (most - (i + 1)) (held_state n h l)))
+        ∙ sym (ap (λ (x : ℕ). later i p q m (loop (fixed_of k) ss ds x (held_state n h l))) e) ∙ left
 
     -- t, y and o: whether the rounds end here, with what refusal, and the most comparisons by then
     pub turn_on : {t : Bool} {o : ℕ} → t ≡ stopped s.verdict → t ≡ false → o ≡ max m s.comparisons
         → later (i + 1) (p + s.passes) (q + s.queries) o (onward next) ≡ whole
     turn_on f g e =
         same_counts (λ a b c. later (i + 1) (p + a) (q + b) c (onward next)) d.passes d.count (e ∙ ap (max m) d.comparisons)
-        ∙ carry-on i p q m this.passes this.found.comparisons this.found.queries next onward s.verdict (sym f ∙ g) ∙ turn
+        ∙ carry_on i p q m this.passes this.found.comparisons this.found.queries next onward s.verdict (sym f ∙ g) ∙ turn
 
-    pub turn-ends : {t : Bool} {y o : ℕ} → t ≡ stopped s.verdict → t ≡ true → y ≡ refusalOf s.verdict → o ≡ max m s.comparisons
-        → ends (endingOf y next) (i + 1) (p + s.passes) (q + s.queries) o ≡ whole
-    turn-ends {o = o} f g y e =
-        ap (λ (x : ℕ). ends (endingOf x next) (i + 1) (p + s.passes) (q + s.queries) o) y
-        ∙ same_counts (λ a b c. ends (endingOf (refusalOf s.verdict) next) (i + 1) (p + a) (q + b) c) d.passes d.count (e ∙ ap (max m) d.comparisons)
-        ∙ carry-ends i p q m this.passes this.found.comparisons this.found.queries next onward s.verdict (sym f ∙ g) turn-lawful ∙ turn
+    pub turn_ends : {t : Bool} {y o : ℕ} → t ≡ stopped s.verdict → t ≡ true → y ≡ refusal_of s.verdict → o ≡ max m s.comparisons
+        → ends (ending_of y next) (i + 1) (p + s.passes) (q + s.queries) o ≡ whole
+    turn_ends {o = o} f g y e =
+        ap (λ (x : ℕ). ends (ending_of x next) (i + 1) (p + s.passes) (q + s.queries) o) y
+        ∙ same_counts (λ a b c. ends (ending_of (refusal_of s.verdict) next) (i + 1) (p + a) (q + b) c) d.passes d.count (e ∙ ap (max m) d.comparisons)
+        ∙ carry_ends i p q m this.passes this.found.comparisons this.found.queries next onward s.verdict (sym f ∙ g) turn_lawful ∙ turn
 
 -- ---- before the first round, after the last, and the answer
 
@@ -217,9 +217,9 @@ abbrev pub totals : Run → Sums
 totals r = ends r.ending r.rounds r.passes (length r.queries) r.comparisons
 
 module _ (k : Fixed) (ss ds : List Float) (most : ℕ) (s : State) where
-  pub rounds-end : (i p q m : ℕ) {whole : Sums} → most ≤ i → later i p q m (loop k ss ds (most - i) s) ≡ whole → ends (endingOf 0 s) i p q m ≡ whole
-  unfolding loop endingOf
-  rounds-end i p q m h left =
+  pub rounds_end : (i p q m : ℕ) {whole : Sums} → most ≤ i → later i p q m (loop k ss ds (most - i) s) ≡ whole → ends (ending_of 0 s) i p q m ≡ whole
+  unfolding loop ending_of
+  rounds_end i p q m h left =
       let e : most - i ≡ 0 = omega arith in
       let a : i ≡ i + 0 = omega arith in
       let b : p ≡ p + 0 = omega arith in
@@ -228,8 +228,8 @@ module _ (k : Fixed) (ss ds : List Float) (most : ℕ) (s : State) where
       ends_same (ended s) a b c d ∙ sym (ap (λ (x : ℕ). later i p q m (loop k ss ds x s)) e) ∙ left
 
 pub ran : (k : Settings) (n : ℕ) (ss ds : List Float) (most : ℕ) (h : Held) (before after : List ℕ) (r : Ran)
-    → ends (endingOf r.refusal (heldState n r.held after)) r.rounds r.passes r.queries r.comparisons
-    ≡ totals (loop (fixedOf k) ss ds most (heldState n h before))
+    → ends (ending_of r.refusal (held_state n r.held after)) r.rounds r.passes r.queries r.comparisons
+    ≡ totals (loop (fixed_of k) ss ds most (held_state n h before))
     → Fits k n r.held → RanTo k n ss ds most h before after r
 ran k n ss ds most h before after r e f = record {
   ending = ap (λ (x : Sums). x.ending) e;

@@ -2,11 +2,11 @@
 use Rattle.std.proofs.Common.{◌≡◌, ℕ, suc, ◌+◌, ◌-◌, ◌*◌, ◌<◌, ◌≤◌, Bool, true, false, cond, not, ◌&&◌, ◌||◌, eqb, ltb, List, [], ◌∷◌, length, get_or, take, set, sym, refl, ap, ◌∙◌, subst, ⊎_elim, arith, length-set, get_or-drop, get_or-set_other, get_or-take, get_or-set_same, drop-set-lt, ltb-true, le-ltb, lt-ltb, eq-eqb, ne_eqb, eqb-true}
 use borrow.Author.Tests.{eqb-false}
 use lib.Seq.{slice, slice-cons, slice_empty, length-slice, take-set-le}
-use Rattle.wcs_refine.specs.Associate.{Link, links, sameMatches}
-use Rattle.wcs_refine.specs.Comparing.{linkOf, sameLink, among, names, Lone, numberedDirection, tells, Kept, Few, Laid, Comparable, Marked}
+use Rattle.wcs_refine.specs.Associate.{Link, links, same_matches}
+use Rattle.wcs_refine.specs.Comparing.{link_of, same_link, among, names, Lone, numbered_direction, tells, Kept, Few, Laid, Comparable, Marked}
 use Rattle.wcs_refine.proofs.Along.{either}
 use Rattle.std.proofs.lemmas.Bool.{and_parts, or_cases, or_left, or_parts, or_right}
-use Rattle.wcs_refine.proofs.SameLinks.{never, below_or, same-says, without, without-first, without-later, among_later, takes, takes_one, takes_none, takes_same, one_fewer, differ, none_left}
+use Rattle.wcs_refine.proofs.SameLinks.{never, below_or, same_says, without, without_first, without_later, among_later, takes, takes_one, takes_none, takes_same, one_fewer, differ, none_left}
 
 -- ---- all but the table is kept
 
@@ -16,8 +16,8 @@ module _ (base n : ℕ) (m o : List ℕ) (k : Kept base n m o) where
       let e : base + n + (j - (base + n)) ≡ j = omega arith in
       rw (← e, ← get_or-drop (base + n) m (j - (base + n)) 0, ← get_or-drop (base + n) o (j - (base + n)) 0, k.back)
 
-  pub kept-front : (j : ℕ) → j < base → get_or m j 0 ≡ get_or o j 0
-  kept-front j h = sym (get_or-take base m j 0 h) ∙ ap (λ (l : List ℕ). get_or l j 0) k.front ∙ get_or-take base o j 0 h
+  pub kept_front : (j : ℕ) → j < base → get_or m j 0 ≡ get_or o j 0
+  kept_front j h = sym (get_or-take base m j 0 h) ∙ ap (λ (l : List ℕ). get_or l j 0) k.front ∙ get_or-take base o j 0 h
 
   pub kept_set : (s v : ℕ) → s < n → Kept base n (set m (base + s) v) o
   kept_set s v h =
@@ -37,8 +37,8 @@ other : (base s r v : ℕ) (m : List ℕ) → (r ≡ s → ⊥) → get_or (set 
 other base s r v m h = get_or-set_other m (base + s) (base + r) v 0 (λ e. h (omega (arith, e)))
 
 -- numbers of the table stay at most t
-pub few-set : (base n t : ℕ) (m : List ℕ) (s v : ℕ) → base + n ≤ length m → s < n → v ≤ t → Few base n t m → Few base n t (set m (base + s) v)
-few-set base n t m s v long h low f = record { few = λ r p. by r p (eqb r s) refl }
+pub few_set : (base n t : ℕ) (m : List ℕ) (s v : ℕ) → base + n ≤ length m → s < n → v ≤ t → Few base n t m → Few base n t (set m (base + s) v)
+few_set base n t m s v long h low f = record { few = λ r p. by r p (eqb r s) refl }
   where
     by : (r : ℕ) → r < n → (b : Bool) → eqb r s ≡ b → get_or (set m (base + s) v) (base + r) 0 ≤ t
     by r p true e =
@@ -48,50 +48,50 @@ few-set base n t m s v long h low f = record { few = λ r p. by r p (eqb r s) re
 
 -- ---- what the table tells
 
-and-false : (a b c : Bool) → a ≡ true → (b && (not a && c)) ≡ false
-and-false a true c h = rw h
-and-false a false c h = refl
+and_false : (a b c : Bool) → a ≡ true → (b && (not a && c)) ≡ false
+and_false a true c h = rw h
+and_false a false c h = refl
 
-and-true : (a b c : Bool) → a ≡ false → b ≡ true → (b && (not a && c)) ≡ c
-and-true a b c h g = rw (h, g)
+and_true : (a b c : Bool) → a ≡ false → b ≡ true → (b && (not a && c)) ≡ c
+and_true a b c h g = rw (h, g)
 
 module _ (base n start : ℕ) (m o : List ℕ) (x : Link) where
-  pub tells-number : (k : ℕ) → get_or m (base + x.spot) 0 ≡ k
-      → tells base n start m o x ≡ ltb x.spot n && (not (eqb k 0) && eqb x.direction (numberedDirection start o k))
+  pub tells_number : (k : ℕ) → get_or m (base + x.spot) 0 ≡ k
+      → tells base n start m o x ≡ ltb x.spot n && (not (eqb k 0) && eqb x.direction (numbered_direction start o k))
   unfolding tells
-  tells-number k e = ap (λ (j : ℕ). ltb x.spot n && (not (eqb j 0) && eqb x.direction (numberedDirection start o j))) e
+  tells_number k e = ap (λ (j : ℕ). ltb x.spot n && (not (eqb j 0) && eqb x.direction (numbered_direction start o j))) e
 
-  pub tells-zero : get_or m (base + x.spot) 0 ≡ 0 → tells base n start m o x ≡ false
-  tells-zero e = tells-number 0 e ∙ and-false (eqb 0 0) (ltb x.spot n) (eqb x.direction (numberedDirection start o 0)) (eq-eqb 0 0 refl)
+  pub tells_zero : get_or m (base + x.spot) 0 ≡ 0 → tells base n start m o x ≡ false
+  tells_zero e = tells_number 0 e ∙ and_false (eqb 0 0) (ltb x.spot n) (eqb x.direction (numbered_direction start o 0)) (eq-eqb 0 0 refl)
 
-  pub tells-direction : (k : ℕ) → get_or m (base + x.spot) 0 ≡ k → (k ≡ 0 → ⊥) → x.spot < n → tells base n start m o x ≡ eqb x.direction (numberedDirection start o k)
-  tells-direction k e h p =
-      tells-number k e ∙ and-true (eqb k 0) (ltb x.spot n) (eqb x.direction (numberedDirection start o k)) (ne_eqb k 0 h) (lt-ltb x.spot n p)
+  pub tells_direction : (k : ℕ) → get_or m (base + x.spot) 0 ≡ k → (k ≡ 0 → ⊥) → x.spot < n → tells base n start m o x ≡ eqb x.direction (numbered_direction start o k)
+  tells_direction k e h p =
+      tells_number k e ∙ and_true (eqb k 0) (ltb x.spot n) (eqb x.direction (numbered_direction start o k)) (ne_eqb k 0 h) (lt-ltb x.spot n p)
 
-  pub tells-beyond : n ≤ x.spot → tells base n start m o x ≡ false
+  pub tells_beyond : n ≤ x.spot → tells base n start m o x ≡ false
   unfolding tells
-  tells-beyond h = rw (le-ltb x.spot n h)
+  tells_beyond h = rw (le-ltb x.spot n h)
 
 -- a number written for another spot
-tells-other : (base n start s v : ℕ) (m o : List ℕ) (x : Link) → (x.spot ≡ s → ⊥) → tells base n start (set m (base + s) v) o x ≡ tells base n start m o x
-tells-other base n start s v m o x h =
-    tells-number base n start (set m (base + s) v) o x (get_or m (base + x.spot) 0) (other base s x.spot v m h)
-    ∙ sym (tells-number base n start m o x (get_or m (base + x.spot) 0) refl)
+tells_other : (base n start s v : ℕ) (m o : List ℕ) (x : Link) → (x.spot ≡ s → ⊥) → tells base n start (set m (base + s) v) o x ≡ tells base n start m o x
+tells_other base n start s v m o x h =
+    tells_number base n start (set m (base + s) v) o x (get_or m (base + x.spot) 0) (other base s x.spot v m h)
+    ∙ sym (tells_number base n start m o x (get_or m (base + x.spot) 0) refl)
 
 -- the same matches in another list
-pub tells-same : (base n start : ℕ) (m o : List ℕ) (x : Link) → base + n ≤ start → Kept base n m o → tells base n start m m x ≡ tells base n start m o x
-tells-same base n start m o x h k =
+pub tells_same : (base n start : ℕ) (m o : List ℕ) (x : Link) → base + n ≤ start → Kept base n m o → tells base n start m m x ≡ tells base n start m o x
+tells_same base n start m o x h k =
     let j = get_or m (base + x.spot) 0 in
-    tells-number base n start m m x j refl
+    tells_number base n start m m x j refl
     ∙ ap (λ (d : ℕ). ltb x.spot n && (not (eqb j 0) && eqb x.direction d)) (kept_back base n m o k (start + 2 * (j - 1) + 1) (omega arith))
-    ∙ sym (tells-number base n start m o x j refl)
+    ∙ sym (tells_number base n start m o x j refl)
 
 -- ---- lists of links
 
 -- two numbers more of a part, and one link
-pub two-more : (l : List ℕ) (a i e : ℕ) → a + 2 * i + 1 < e → e ≤ length l
+pub two_more : (l : List ℕ) (a i e : ℕ) → a + 2 * i + 1 < e → e ≤ length l
     → slice (a + 2 * i) e l ≡ get_or l (a + 2 * i) 0 ∷ get_or l (a + 2 * i + 1) 0 ∷ slice (a + 2 * (i + 1)) e l
-two-more l a i e h fits =
+two_more l a i e h fits =
     let p : a + 2 * i < e = omega arith in
     let q : suc (a + 2 * i) < e = omega arith in
     let u : suc (a + 2 * i) ≡ a + 2 * i + 1 = omega arith in
@@ -102,9 +102,9 @@ two-more l a i e h fits =
     ∙ ap (λ (j : ℕ). get_or l (a + 2 * i + 1) 0 ∷ slice j e l) v)
 
 one_more : (l : List ℕ) (a i e : ℕ) → a + 2 * i + 1 < e → e ≤ length l
-    → links (slice (a + 2 * i) e l) ≡ linkOf (get_or l (a + 2 * i) 0) (get_or l (a + 2 * i + 1) 0) ∷ links (slice (a + 2 * (i + 1)) e l)
+    → links (slice (a + 2 * i) e l) ≡ link_of (get_or l (a + 2 * i) 0) (get_or l (a + 2 * i + 1) 0) ∷ links (slice (a + 2 * (i + 1)) e l)
 unfolding links
-one_more l a i e h fits = ap links (two-more l a i e h fits)
+one_more l a i e h fits = ap links (two_more l a i e h fits)
 
 pub no_more : (l : List ℕ) (a i t : ℕ) → i ≡ t → links (slice (a + 2 * i) (a + 2 * t) l) ≡ []
 unfolding links
@@ -116,8 +116,8 @@ half [] t h = omega arith
 half (s ∷ []) t h = absurd (omega arith)
 half (s ∷ d ∷ l) t h = omega (arith, half l (t - 1) (omega arith))
 
-pub links-many : (l : List ℕ) (a t : ℕ) → a + 2 * t ≤ length l → length (links (slice a (a + 2 * t) l)) ≡ t
-links-many l a t h =
+pub links_many : (l : List ℕ) (a t : ℕ) → a + 2 * t ≤ length l → length (links (slice a (a + 2 * t) l)) ≡ t
+links_many l a t h =
     let e : a + 2 * t - a ≡ 2 * t = omega arith in
     half (slice a (a + 2 * t) l) t (length-slice a (a + 2 * t) l h ∙ e)
 
@@ -136,38 +136,38 @@ named x (a ∷ l) h =
     ⊎_elim
     (λ u. or_left (eqb x.spot a.spot) (names x.spot l) (and_parts (eqb x.spot a.spot) (eqb x.direction a.direction) u).0)
     (λ u. or_right (eqb x.spot a.spot) (names x.spot l) (named x l u))
-    (or_cases (sameLink x a) (among x l) h)
+    (or_cases (same_link x a) (among x l) h)
 
-named-below : (n s : ℕ) (l : List Link) → Lone n l → names s l ≡ true → s < n
+named_below : (n s : ℕ) (l : List Link) → Lone n l → names s l ≡ true → s < n
 unfolding names
-named-below n s [] h g = never g refl
-named-below n s (a ∷ l) h g =
-    ⊎_elim (λ u. omega (arith, eqb-true s a.spot u, h.0)) (λ u. named-below n s l h.2 u) (or_cases (eqb s a.spot) (names s l) g)
+named_below n s [] h g = never g refl
+named_below n s (a ∷ l) h g =
+    ⊎_elim (λ u. omega (arith, eqb-true s a.spot u, h.0)) (λ u. named_below n s l h.2 u) (or_cases (eqb s a.spot) (names s l) g)
 
 -- ---- one link taken out
 
 module _ (x : Link) where
-  without-unnamed : (s : ℕ) (l : List Link) → names s l ≡ false → names s (without x l) ≡ false
+  without_unnamed : (s : ℕ) (l : List Link) → names s l ≡ false → names s (without x l) ≡ false
   unfolding names without
-  without-unnamed s [] h = refl
-  without-unnamed s (a ∷ l) h =
+  without_unnamed s [] h = refl
+  without_unnamed s (a ∷ l) h =
       let r = or_parts (eqb s a.spot) (names s l) h in
-      either (λ (z : List Link). names s z ≡ false) (sameLink x a) l (a ∷ without x l) r.1 (rw r.0 (without-unnamed s l r.1))
+      either (λ (z : List Link). names s z ≡ false) (same_link x a) l (a ∷ without x l) r.1 (rw r.0 (without_unnamed s l r.1))
 
-  without-lone : (n : ℕ) (l : List Link) → Lone n l → Lone n (without x l)
+  without_lone : (n : ℕ) (l : List Link) → Lone n l → Lone n (without x l)
   unfolding without
-  without-lone n [] h = h
-  without-lone n (a ∷ l) h =
-      either (Lone n) (sameLink x a) l (a ∷ without x l) h.2 (h.0, without-unnamed a.spot l h.1, without-lone n l h.2)
+  without_lone n [] h = h
+  without_lone n (a ∷ l) h =
+      either (Lone n) (same_link x a) l (a ∷ without x l) h.2 (h.0, without_unnamed a.spot l h.1, without_lone n l h.2)
 
-  gone-past : (n : ℕ) (a : Link) (l : List Link) → (among x l ≡ true → names x.spot (without x l) ≡ false) → Lone n (a ∷ l) → among x (a ∷ l) ≡ true
-      → (p : Bool) → sameLink x a ≡ p → names x.spot (without x (a ∷ l)) ≡ false
+  gone_past : (n : ℕ) (a : Link) (l : List Link) → (among x l ≡ true → names x.spot (without x l) ≡ false) → Lone n (a ∷ l) → among x (a ∷ l) ≡ true
+      → (p : Bool) → same_link x a ≡ p → names x.spot (without x (a ∷ l)) ≡ false
   unfolding names
-  gone-past n a l same h g true u =
-      ap (names x.spot) (without-first x a l u) ∙ ap (λ (y : Link). names y.spot l) (same-says x a u) ∙ h.1
-  gone-past n a l same h g false u =
+  gone_past n a l same h g true u =
+      ap (names x.spot) (without_first x a l u) ∙ ap (λ (y : Link). names y.spot l) (same_says x a u) ∙ h.1
+  gone_past n a l same h g false u =
       let t : among x l ≡ true = sym (among_later x a l u) ∙ g in
-      ap (names x.spot) (without-later x a l u) ∙ neither (eqb x.spot a.spot) refl (same t)
+      ap (names x.spot) (without_later x a l u) ∙ neither (eqb x.spot a.spot) refl (same t)
     where
       neither : (b : Bool) → eqb x.spot a.spot ≡ b → names x.spot (without x l) ≡ false → (b || names x.spot (without x l)) ≡ false
       neither true e k = never (ap (λ (s : ℕ). names s l) (sym (eqb-true x.spot a.spot e)) ∙ named x l (sym (among_later x a l u) ∙ g)) h.1
@@ -176,21 +176,21 @@ module _ (x : Link) where
   gone : (n : ℕ) (l : List Link) → Lone n l → among x l ≡ true → names x.spot (without x l) ≡ false
   unfolding among
   gone n [] h g = never g refl
-  gone n (a ∷ l) h g = gone-past n a l (gone n l h.2) h g (sameLink x a) refl
+  gone n (a ∷ l) h g = gone_past n a l (gone n l h.2) h g (same_link x a) refl
 
-  others-past : (y a : Link) (l : List Link) → sameLink y x ≡ false → among y (without x l) ≡ among y l → (p : Bool) → sameLink x a ≡ p
+  others_past : (y a : Link) (l : List Link) → same_link y x ≡ false → among y (without x l) ≡ among y l → (p : Bool) → same_link x a ≡ p
       → among y (without x (a ∷ l)) ≡ among y (a ∷ l)
   unfolding among
-  others-past y a l h same true u =
-      ap (among y) (without-first x a l u) ∙ sym (among_later y a l (ap (sameLink y) (sym (same-says x a u)) ∙ h))
-  others-past y a l h same false u = ap (among y) (without-later x a l u) ∙ ap (λ (t : Bool). sameLink y a || t) same
+  others_past y a l h same true u =
+      ap (among y) (without_first x a l u) ∙ sym (among_later y a l (ap (same_link y) (sym (same_says x a u)) ∙ h))
+  others_past y a l h same false u = ap (among y) (without_later x a l u) ∙ ap (λ (t : Bool). same_link y a || t) same
 
-  others : (y : Link) (l : List Link) → sameLink y x ≡ false → among y (without x l) ≡ among y l
+  others : (y : Link) (l : List Link) → same_link y x ≡ false → among y (without x l) ≡ among y l
   unfolding among without
   others y [] h = refl
-  others y (a ∷ l) h = others-past y a l h (others y l h) (sameLink x a) refl
+  others y (a ∷ l) h = others_past y a l h (others y l h) (same_link x a) refl
 
-not_same : (y x : Link) → eqb y.spot x.spot ≡ false → sameLink y x ≡ false
+not_same : (y x : Link) → eqb y.spot x.spot ≡ false → same_link y x ≡ false
 not_same y x h = ap (λ (t : Bool). t && eqb y.direction x.direction) h
 
 -- ---- marking: with the matches to come, the table tells of all
@@ -211,13 +211,13 @@ module _ (base n start t used : ℕ) (o : List ℕ) (c : Comparable base n start
 
   untold : (x : Link) → tells base n start o o x ≡ false
   untold x =
-      ⊎_elim (λ h. tells-zero base n start o o x (c.zeros x.spot h)) (λ h. tells-beyond base n start o o x h) (below_or x.spot n)
+      ⊎_elim (λ h. tells_zero base n start o o x (c.zeros x.spot h)) (λ h. tells_beyond base n start o o x h) (below_or x.spot n)
 
-  pub mark-begin : Marking base n start t o o new new
-  mark-begin = record {
+  pub mark_begin : Marking base n start t o o new new
+  mark_begin = record {
     kept = kept_same base n o;
     few = record { few = λ s h. omega (arith, c.zeros s h) };
-    zeros = λ s h. c.zeros s (named-below n s new c.lone h);
+    zeros = λ s h. c.zeros s (named_below n s new c.lone h);
     lone = c.lone;
     told = λ x. ap (λ (b : Bool). b || among x new) (untold x);
   }
@@ -236,47 +236,47 @@ module _ (base n start t : ℕ) (m o : List ℕ) (y : Link) (rest all : List Lin
       other base y.spot s (i + 1) m (λ e. never (ap (λ (j : ℕ). names j rest) (sym e) ∙ g) w.lone.1)
       ∙ w.zeros s (or_right (eqb s y.spot) (names s rest) g)
 
-  told-new : (x : Link) → eqb x.spot y.spot ≡ true → (tells base n start after o x || among x rest) ≡ among x all
+  told_new : (x : Link) → eqb x.spot y.spot ≡ true → (tells base n start after o x || among x rest) ≡ among x all
   unfolding among names
-  told-new x e =
+  told_new x e =
       let s : x.spot ≡ y.spot = eqb-true x.spot y.spot e in
       let p : base + y.spot < length m = omega (arith, below) in
       let one : i + 1 ≡ 0 → ⊥ = λ (z : i + 1 ≡ 0). omega arith in
       let number : get_or after (base + x.spot) 0 ≡ i + 1 = ap (λ (j : ℕ). get_or after (base + j) 0) s ∙ get_or-set_same m (base + y.spot) (i + 1) 0 p in
       let place : start + 2 * (i + 1 - 1) + 1 ≡ start + 2 * i + 1 = omega arith in
       let u : tells base n start after o x ≡ eqb x.direction y.direction =
-      tells-direction base n start after o x (i + 1) number one (omega (arith, below))
+      tells_direction base n start after o x (i + 1) number one (omega (arith, below))
       ∙ ap (λ (j : ℕ). eqb x.direction (get_or o j 0)) place ∙ ap (eqb x.direction) d in
-      let v : tells base n start m o x ≡ false = tells-zero base n start m o x (w.zeros x.spot (or_left (eqb x.spot y.spot) (names x.spot rest) e)) in
-      let f : sameLink x y ≡ eqb x.direction y.direction = ap (λ (b : Bool). b && eqb x.direction y.direction) e in
-      ap (λ (b : Bool). b || among x rest) (u ∙ sym f) ∙ sym (ap (λ (b : Bool). b || (sameLink x y || among x rest)) v) ∙ w.told x
+      let v : tells base n start m o x ≡ false = tells_zero base n start m o x (w.zeros x.spot (or_left (eqb x.spot y.spot) (names x.spot rest) e)) in
+      let f : same_link x y ≡ eqb x.direction y.direction = ap (λ (b : Bool). b && eqb x.direction y.direction) e in
+      ap (λ (b : Bool). b || among x rest) (u ∙ sym f) ∙ sym (ap (λ (b : Bool). b || (same_link x y || among x rest)) v) ∙ w.told x
 
-  told-other : (x : Link) → eqb x.spot y.spot ≡ false → (tells base n start after o x || among x rest) ≡ among x all
+  told_other : (x : Link) → eqb x.spot y.spot ≡ false → (tells base n start after o x || among x rest) ≡ among x all
   unfolding among
-  told-other x e =
-      ap (λ (b : Bool). b || among x rest) (tells-other base n start y.spot (i + 1) m o x (eqb-false x.spot y.spot e))
+  told_other x e =
+      ap (λ (b : Bool). b || among x rest) (tells_other base n start y.spot (i + 1) m o x (eqb-false x.spot y.spot e))
       ∙ sym (ap (λ (b : Bool). tells base n start m o x || (b || among x rest)) (not_same x y e)) ∙ w.told x
 
-  told-each : (x : Link) (b : Bool) → eqb x.spot y.spot ≡ b → (tells base n start after o x || among x rest) ≡ among x all
-  told-each x true e = told-new x e
-  told-each x false e = told-other x e
+  told_each : (x : Link) (b : Bool) → eqb x.spot y.spot ≡ b → (tells base n start after o x || among x rest) ≡ among x all
+  told_each x true e = told_new x e
+  told_each x false e = told_other x e
 
-  pub mark-step : Marking base n start t after o rest all
-  mark-step = record {
+  pub mark_step : Marking base n start t after o rest all
+  mark_step = record {
     kept = kept_set base n m o w.kept y.spot (i + 1) below;
-    few = few-set base n t m y.spot (i + 1) table below (omega arith) w.few;
+    few = few_set base n t m y.spot (i + 1) table below (omega arith) w.few;
     zeros = unmarked;
     lone = w.lone.2;
-    told = λ x. told-each x (eqb x.spot y.spot) refl;
+    told = λ x. told_each x (eqb x.spot y.spot) refl;
   }
 
-or-none : (b : Bool) → b || false ≡ b
-or-none true = refl
-or-none false = refl
+or_none : (b : Bool) → b || false ≡ b
+or_none true = refl
+or_none false = refl
 
-pub mark-end : (base n start t : ℕ) (m o : List ℕ) → Marking base n start t m o [] (links (slice start (start + 2 * t) o)) → Marked base n start t m o
+pub mark_end : (base n start t : ℕ) (m o : List ℕ) → Marking base n start t m o [] (links (slice start (start + 2 * t) o)) → Marked base n start t m o
 unfolding among
-mark-end base n start t m o w = record { kept = w.kept; few = w.few; told = λ x. sym (or-none (tells base n start m o x)) ∙ w.told x }
+mark_end base n start t m o w = record { kept = w.kept; few = w.few; told = λ x. sym (or_none (tells base n start m o x)) ∙ w.told x }
 
 -- ---- striking out: the present matches to come are taken from the new ones that are left
 
@@ -294,133 +294,133 @@ pub striking : {base n start t : ℕ} {m o : List ℕ} {old next : List Link} {a
 striking {base} {n} {start} {t} {m} {o} {answer = answer} e w = subst (λ (l : List Link). Striking base n start t m o l answer) e w
 
 module _ (base n start t : ℕ) (m o : List ℕ) where
-  pub strike-begin : (used : ℕ) → Comparable base n start t used o → Marked base n start t m o → (ps : List ℕ) → length (links ps) ≡ t
-      → Striking base n start t m o (links ps) (sameMatches (slice start (start + 2 * t) o) ps)
-  strike-begin used c w ps e = record {
+  pub strike_begin : (used : ℕ) → Comparable base n start t used o → Marked base n start t m o → (ps : List ℕ) → length (links ps) ≡ t
+      → Striking base n start t m o (links ps) (same_matches (slice start (start + 2 * t) o) ps)
+  strike_begin used c w ps e = record {
     rem = links (slice start (start + 2 * t) o);
     kept = w.kept;
     few = w.few;
     told = w.told;
     lone = c.lone;
     goes = takes_same (slice start (start + 2 * t) o) ps;
-    many = links-many o start t c.places.fits ∙ sym e;
+    many = links_many o start t c.places.fits ∙ sym e;
   }
 
-  pub strike-end : {answer : Bool} → Striking base n start t m o [] answer → true ≡ answer
-  strike-end w = sym (none_left w.rem w.many) ∙ w.goes
+  pub strike_end : {answer : Bool} → Striking base n start t m o [] answer → true ≡ answer
+  strike_end w = sym (none_left w.rem w.many) ∙ w.goes
 
   module _ (x : Link) (old : List Link) {answer : Bool} (w : Striking base n start t m o (x ∷ old) answer) where
-    pub strike-stop : tells base n start m o x ≡ false → false ≡ answer
-    strike-stop h = sym (takes_none x old w.rem (sym (w.told x) ∙ h)) ∙ w.goes
+    pub strike_stop : tells base n start m o x ≡ false → false ≡ answer
+    strike_stop h = sym (takes_none x old w.rem (sym (w.told x) ∙ h)) ∙ w.goes
 
     module _ (table : base + n ≤ length m) (h : tells base n start m o x ≡ true) where
       abbrev struck : List ℕ
       struck = set m (base + x.spot) 0
 
-      is-in : among x w.rem ≡ true
-      is-in = sym (w.told x) ∙ h
+      is_in : among x w.rem ≡ true
+      is_in = sym (w.told x) ∙ h
 
       in_table : x.spot < n
       unfolding tells
       in_table = ltb-true x.spot n (and_parts (ltb x.spot n) _ h).0
 
-      told-after : (y : Link) (b : Bool) → eqb y.spot x.spot ≡ b → tells base n start struck o y ≡ among y (without x w.rem)
-      told-after y true e =
+      told_after : (y : Link) (b : Bool) → eqb y.spot x.spot ≡ b → tells base n start struck o y ≡ among y (without x w.rem)
+      told_after y true e =
           let s : y.spot ≡ x.spot = eqb-true y.spot x.spot e in
           let p : base + x.spot < length m = omega (arith, in_table) in
-          tells-zero base n start struck o y (ap (λ (j : ℕ). get_or struck (base + j) 0) s ∙ get_or-set_same m (base + x.spot) 0 0 p)
-          ∙ sym (unnamed y (without x w.rem) (ap (λ (j : ℕ). names j (without x w.rem)) s ∙ gone x n w.rem w.lone is-in))
-      told-after y false e =
-          tells-other base n start x.spot 0 m o y (eqb-false y.spot x.spot e) ∙ w.told y ∙ sym (others x y w.rem (not_same y x e))
+          tells_zero base n start struck o y (ap (λ (j : ℕ). get_or struck (base + j) 0) s ∙ get_or-set_same m (base + x.spot) 0 0 p)
+          ∙ sym (unnamed y (without x w.rem) (ap (λ (j : ℕ). names j (without x w.rem)) s ∙ gone x n w.rem w.lone is_in))
+      told_after y false e =
+          tells_other base n start x.spot 0 m o y (eqb-false y.spot x.spot e) ∙ w.told y ∙ sym (others x y w.rem (not_same y x e))
 
-      pub strike-step : Striking base n start t struck o old answer
-      strike-step = record {
+      pub strike_step : Striking base n start t struck o old answer
+      strike_step = record {
         rem = without x w.rem;
         kept = kept_set base n m o w.kept x.spot 0 in_table;
-        few = few-set base n t m x.spot 0 table in_table (omega arith) w.few;
-        told = λ y. told-after y (eqb y.spot x.spot) refl;
-        lone = without-lone x n w.rem w.lone;
-        goes = sym (takes_one x old w.rem is-in) ∙ w.goes;
-        many = omega (arith, one_fewer x w.rem is-in, w.many);
+        few = few_set base n t m x.spot 0 table in_table (omega arith) w.few;
+        told = λ y. told_after y (eqb y.spot x.spot) refl;
+        lone = without_lone x n w.rem w.lone;
+        goes = sym (takes_one x old w.rem is_in) ∙ w.goes;
+        many = omega (arith, one_fewer x w.rem is_in, w.many);
       }
 
 -- ---- the present matches stand at the front of the list
 
-pub compare-begin : (base n start t used : ℕ) (m o : List ℕ) → Comparable base n start t used o → Marked base n start t m o → t ≡ used
-    → Striking base n start t m o (links (slice (0 + 2 * 0) (0 + 2 * t) o)) (sameMatches (slice start (start + 2 * t) o) (take (2 * used) o))
-compare-begin base n start t used m o c w e =
+pub compare_begin : (base n start t used : ℕ) (m o : List ℕ) → Comparable base n start t used o → Marked base n start t m o → t ≡ used
+    → Striking base n start t m o (links (slice (0 + 2 * 0) (0 + 2 * t) o)) (same_matches (slice start (start + 2 * t) o) (take (2 * used) o))
+compare_begin base n start t used m o c w e =
     let p : 2 * used ≡ 0 + 2 * t = omega arith in
     let fits : 0 + 2 * t ≤ length o = omega (arith, c.places.present, c.places.table, c.places.fits) in
     striking (ap (λ (k : ℕ). links (take k o)) p)
-    (strike-begin base n start t m o used c w (take (2 * used) o) (ap (λ (k : ℕ). length (links (take k o))) p ∙ links-many o 0 t fits))
+    (strike_begin base n start t m o used c w (take (2 * used) o) (ap (λ (k : ℕ). length (links (take k o))) p ∙ links_many o 0 t fits))
 
 module _ (base n start t used : ℕ) (m o : List ℕ) (places : Laid base n start t used o) (same : t ≡ used) (j : ℕ) (h : j < t) {answer : Bool}
     (w : Striking base n start t m o (links (slice (0 + 2 * j) (0 + 2 * t) o)) answer) {r : Bool} {after : List ℕ}
-    (e : r ≡ tells base n start m m (linkOf (get_or m (2 * j) 0) (get_or m (2 * j + 1) 0)))
+    (e : r ≡ tells base n start m m (link_of (get_or m (2 * j) 0) (get_or m (2 * j + 1) 0)))
     (f : after ≡ cond r (set m (base + get_or m (2 * j) 0) 0) m) where
   abbrev here : Link
-  here = linkOf (get_or o (0 + 2 * j) 0) (get_or o (0 + 2 * j + 1) 0)
+  here = link_of (get_or o (0 + 2 * j) 0) (get_or o (0 + 2 * j + 1) 0)
 
   abbrev later : List Link
   later = links (slice (0 + 2 * (j + 1)) (0 + 2 * t) o)
 
-  spot-same : get_or m (2 * j) 0 ≡ get_or o (0 + 2 * j) 0
-  spot-same =
+  spot_same : get_or m (2 * j) 0 ≡ get_or o (0 + 2 * j) 0
+  spot_same =
       let p : 2 * j ≡ 0 + 2 * j = omega arith in
-      kept-front base n m o w.kept (2 * j) (omega (arith, places.present)) ∙ ap (λ (i : ℕ). get_or o i 0) p
+      kept_front base n m o w.kept (2 * j) (omega (arith, places.present)) ∙ ap (λ (i : ℕ). get_or o i 0) p
 
-  direction-same : get_or m (2 * j + 1) 0 ≡ get_or o (0 + 2 * j + 1) 0
-  direction-same =
+  direction_same : get_or m (2 * j + 1) 0 ≡ get_or o (0 + 2 * j + 1) 0
+  direction_same =
       let p : 2 * j + 1 ≡ 0 + 2 * j + 1 = omega arith in
-      kept-front base n m o w.kept (2 * j + 1) (omega (arith, places.present)) ∙ ap (λ (i : ℕ). get_or o i 0) p
+      kept_front base n m o w.kept (2 * j + 1) (omega (arith, places.present)) ∙ ap (λ (i : ℕ). get_or o i 0) p
 
   known : tells base n start m o here ≡ r
   known =
-      sym (tells-same base n start m o here places.table w.kept)
-      ∙ ap (λ (s : ℕ). tells base n start m m (linkOf s (get_or o (0 + 2 * j + 1) 0))) (sym spot-same)
-      ∙ ap (λ (d : ℕ). tells base n start m m (linkOf (get_or m (2 * j) 0) d)) (sym direction-same) ∙ sym e
+      sym (tells_same base n start m o here places.table w.kept)
+      ∙ ap (λ (s : ℕ). tells base n start m m (link_of s (get_or o (0 + 2 * j + 1) 0))) (sym spot_same)
+      ∙ ap (λ (d : ℕ). tells base n start m m (link_of (get_or m (2 * j) 0) d)) (sym direction_same) ∙ sym e
 
   next : Striking base n start t m o (here ∷ later) answer
   next = striking (one_more o 0 j (0 + 2 * t) (omega arith) (omega (arith, places.present, places.table, places.fits))) w
 
-  pub compare-stop : r ≡ false → (false ≡ answer) × Kept base n after o
-  compare-stop g = (
-    strike-stop base n start t m o here later next (known ∙ g),
+  pub compare_stop : r ≡ false → (false ≡ answer) × Kept base n after o
+  compare_stop g = (
+    strike_stop base n start t m o here later next (known ∙ g),
     subst (λ (l : List ℕ). Kept base n l o) (sym (f ∙ ap (λ (b : Bool). cond b (set m (base + get_or m (2 * j) 0) 0) m) g)) w.kept,
   )
 
-  pub compare-go : r ≡ true → Striking base n start t after o later answer
-  compare-go g =
+  pub compare_go : r ≡ true → Striking base n start t after o later answer
+  compare_go g =
       let long : base + n ≤ length m = omega (arith, w.kept.long, places.table, places.fits) in
       subst (λ (l : List ℕ). Striking base n start t l o later answer)
-      (sym (f ∙ ap (λ (b : Bool). cond b (set m (base + get_or m (2 * j) 0) 0) m) g ∙ ap (λ (s : ℕ). set m (base + s) 0) spot-same))
-      (strike-step base n start t m o here later next long (known ∙ g))
+      (sym (f ∙ ap (λ (b : Bool). cond b (set m (base + get_or m (2 * j) 0) 0) m) g ∙ ap (λ (s : ℕ). set m (base + s) 0) spot_same))
+      (strike_step base n start t m o here later next long (known ∙ g))
 
 -- one new match more is marked
-pub compare-mark : (base n start t used : ℕ) (m o : List ℕ) → Laid base n start t used o → (i : ℕ) → i < t → (all : List Link)
+pub compare_mark : (base n start t used : ℕ) (m o : List ℕ) → Laid base n start t used o → (i : ℕ) → i < t → (all : List Link)
     → Marking base n start t m o (links (slice (start + 2 * i) (start + 2 * t) o)) all
     → Marking base n start t (set m (base + get_or m (start + 2 * i) 0) (i + 1)) o (links (slice (start + 2 * (i + 1)) (start + 2 * t) o)) all
-compare-mark base n start t used m o places i h all w =
-    let y = linkOf (get_or o (start + 2 * i) 0) (get_or o (start + 2 * i + 1) 0) in
+compare_mark base n start t used m o places i h all w =
+    let y = link_of (get_or o (start + 2 * i) 0) (get_or o (start + 2 * i + 1) 0) in
     let rest = links (slice (start + 2 * (i + 1)) (start + 2 * t) o) in
     let long : base + n ≤ length m = omega (arith, w.kept.long, places.table, places.fits) in
     subst (λ (s : ℕ). Marking base n start t (set m (base + s) (i + 1)) o rest all)
     (sym (kept_back base n m o w.kept (start + 2 * i) (omega (arith, places.table))))
-    (mark-step base n start t m o y rest all i h long refl (marking (one_more o start i (start + 2 * t) (omega arith) places.fits) w))
+    (mark_step base n start t m o y rest all i h long refl (marking (one_more o start i (start + 2 * t) (omega arith) places.fits) w))
 
 -- the spot of the next new match is one of the table
-pub mark-within : (base n start t used : ℕ) (m o : List ℕ) → Laid base n start t used o → (i : ℕ) → i < t → (all : List Link)
+pub mark_within : (base n start t used : ℕ) (m o : List ℕ) → Laid base n start t used o → (i : ℕ) → i < t → (all : List Link)
     → Marking base n start t m o (links (slice (start + 2 * i) (start + 2 * t) o)) all → get_or m (start + 2 * i) 0 < n
-mark-within base n start t used m o places i h all w =
+mark_within base n start t used m o places i h all w =
     let v = marking (one_more o start i (start + 2 * t) (omega arith) places.fits) w in
     omega (arith, v.lone.0, kept_back base n m o w.kept (start + 2 * i) (omega (arith, places.table)))
 
 -- of different lengths, they differ
-pub compare-lengths : (base n start t used : ℕ) (o : List ℕ) → Laid base n start t used o → (t ≡ used → ⊥)
-    → false ≡ sameMatches (slice start (start + 2 * t) o) (take (2 * used) o)
-compare-lengths base n start t used o places h =
+pub compare_lengths : (base n start t used : ℕ) (o : List ℕ) → Laid base n start t used o → (t ≡ used → ⊥)
+    → false ≡ same_matches (slice start (start + 2 * t) o) (take (2 * used) o)
+compare_lengths base n start t used o places h =
     let p : 2 * used ≡ 0 + 2 * used = omega arith in
-    let old : length (links (take (2 * used) o)) ≡ used = ap (λ (k : ℕ). length (links (take k o))) p ∙ links-many o 0 used (omega (arith, places.present, places.table, places.fits)) in
-    let new = links-many o start t places.fits in
+    let old : length (links (take (2 * used) o)) ≡ used = ap (λ (k : ℕ). length (links (take k o))) p ∙ links_many o 0 used (omega (arith, places.present, places.table, places.fits)) in
+    let new = links_many o start t places.fits in
     sym (differ (links (take (2 * used) o)) (links (slice start (start + 2 * t) o)) (λ e. h (sym new ∙ sym e ∙ old)))
     ∙ takes_same (slice start (start + 2 * t) o) (take (2 * used) o)

@@ -4,10 +4,10 @@ use Rattle.rounding.specs.Arith.{zero64}
 use Rattle.fit.specs.Rows.{rows}
 use Rattle.entry.specs.Arguments.{Call, Given, Lent}
 use Rattle.entry.specs.Check.{refusal}
-use Rattle.entry.specs.Fixed.{fixed, startPose}
+use Rattle.entry.specs.Fixed.{fixed, start_pose}
 use Rattle.query.specs.Query.{empty}
 use Rattle.wcs_refine.specs.Round.{State, Ending, refused, ended, Run, loop}
-use Rattle.wcs_refine.specs.Closing.{Closed, unsound, fine, mostClips, cleaned, Report, reported}
+use Rattle.wcs_refine.specs.Closing.{Closed, unsound, fine, most_clips, cleaned, Report, reported}
 
 -- A refusal's number, or the report with rounds, fit passes, queries and the most comparisons of a round, in this order.
 pub data Answer : Type 0 where
@@ -16,23 +16,23 @@ pub data Answer : Type 0 where
 
 -- "Working state", before the first round: the start pose, `current_matches = initial_matches`, and `reassoc_cache = None`.
 unfoldable pub start : Given → State
-unfolding startPose
-start g = record { pose = startPose g; matches = g.matches; cache = empty }
+unfolding start_pose
+start g = record { pose = start_pose g; matches = g.matches; cache = empty }
 
 -- The run of a call that passes the checks: the "outer refinement loop" from its start, for at most the rounds that it is given.
-unfoldable pub runOf : Call → Run
+unfoldable pub run_of : Call → Run
 unfolding loop fixed start
-runOf c = loop (fixed c) c.spots c.directions c.given.rounds (start c.given)
+run_of c = loop (fixed c) c.spots c.directions c.given.rounds (start c.given)
 
 -- The queries of a call, by the number of the check that refused it on entry, or 0 where none did.
-abbrev pub queriesAfter : Call → ℕ → List (List ℕ)
-queriesAfter c zero = (runOf c).queries
-queriesAfter c (suc n) = []
+abbrev pub queries_after : Call → ℕ → List (List ℕ)
+queries_after c zero = (run_of c).queries
+queries_after c (suc n) = []
 
 -- "The queries of a call are those that this run makes on its arguments before its end or refusal; refused before the run, it makes none."
 unfoldable pub queries : Call → List (List ℕ)
-unfolding runOf refusal
-queries c = queriesAfter c (refusal c)
+unfolding run_of refusal
+queries c = queries_after c (refusal c)
 
 -- After the closing clips: refusal 12, or what is reported. "Reported beside it are rounds, fit passes and queries, as the Rust counts WCS_OUTER,
 -- WCS_INNER and WCS_REASSOC_CALL": those of the run; 02, CR 14: "beside the counts that demand 2 compares with the Rust's", its comparisons.
@@ -46,17 +46,17 @@ closed c (fine p ms) r =
 unfoldable pub finished : Call → Ending → Run → Answer
 unfolding closed cleaned fixed
 finished c (refused n) r = no n
-finished c (ended s) r = closed c (cleaned (fixed c) c.spots c.directions mostClips s.pose s.matches) r
+finished c (ended s) r = closed c (cleaned (fixed c) c.spots c.directions most_clips s.pose s.matches) r
 
 -- The answer of a call, likewise: the refusal on entry, or what follows its run.
-abbrev pub answerAfter : Call → ℕ → Answer
-answerAfter c zero = finished c (runOf c).ending (runOf c)
-answerAfter c (suc n) = no (suc n)
+abbrev pub answer_after : Call → ℕ → Answer
+answer_after c zero = finished c (run_of c).ending (run_of c)
+answer_after c (suc n) = no (suc n)
 
 -- The answer of a whole call: the refusal of the first check on entry that fails, or else what the run comes to.
 unfoldable pub answer : Call → Answer
-unfolding runOf refusal finished
-answer c = answerAfter c (refusal c)
+unfolding run_of refusal finished
+answer c = answer_after c (refusal c)
 
 -- ---- the lent lists afterwards
 

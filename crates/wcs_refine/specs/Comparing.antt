@@ -3,26 +3,26 @@
 use Rattle.std.specs.Prelude.{◌≡◌, ℕ, ◌+◌, ◌-◌, ◌*◌, ◌<◌, ◌≤◌, Bool, false, cond, not, ◌&&◌, ◌||◌, List, [], ◌∷◌, length, take, drop, ◌==◌, nat_lt, slice_index, Float}
 use Rattle.std.proofs.Math.Seq.{slice}
 use Rattle.rounding.specs.Arith.{◌⊗◌}
-use Rattle.pairs.specs.Pairs.{pairs, spotsWithin}
-use Rattle.matching.specs.Merge.{notAfter}
+use Rattle.pairs.specs.Pairs.{pairs, spots_within}
+use Rattle.matching.specs.Merge.{not_after}
 use Rattle.matching.specs.Comparisons.{comparisons}
-use Rattle.matching.specs.Greedy.{flat, matchesOf}
+use Rattle.matching.specs.Greedy.{flat, matches_of}
 use Rattle.pairs.specs.Candidates.{capacity}
-use Rattle.wcs_refine.specs.Associate.{Link, links, sameMatches}
-use Rattle.wcs_refine.specs.Listing.{renamedBy}
+use Rattle.wcs_refine.specs.Associate.{Link, links, same_matches}
+use Rattle.wcs_refine.specs.Listing.{renamed_by}
 use Rattle.wcs_refine.specs.declared.associating.Tally.{Tally}
 
 -- A match of a spot and a direction, and whether two are the same.
-abbrev pub linkOf : ℕ → ℕ → Link
-linkOf s d = record { spot = s; direction = d }
+abbrev pub link_of : ℕ → ℕ → Link
+link_of s d = record { spot = s; direction = d }
 
-abbrev pub sameLink : Link → Link → Bool
-sameLink a b = a.spot == b.spot && a.direction == b.direction
+abbrev pub same_link : Link → Link → Bool
+same_link a b = a.spot == b.spot && a.direction == b.direction
 
 -- Whether a link is one of them, and whether one of them has a spot.
 unfoldable pub among : Link → List Link → Bool
 among x [] = false
-among x (a ∷ l) = sameLink x a || among x l
+among x (a ∷ l) = same_link x a || among x l
 
 unfoldable pub names : ℕ → List Link → Bool
 names s [] = false
@@ -34,8 +34,8 @@ Lone n [] = Unit {0}
 Lone n (a ∷ l) = (a.spot < n) × (names a.spot l ≡ false) × Lone n l
 
 -- The direction of the k-th match, counted from 1, of those that stand from a place on.
-abbrev pub numberedDirection : ℕ → List ℕ → ℕ → ℕ
-numberedDirection start l k = slice_index l (start + 2 * (k - 1) + 1)
+abbrev pub numbered_direction : ℕ → List ℕ → ℕ → ℕ
+numbered_direction start l k = slice_index l (start + 2 * (k - 1) + 1)
 
 -- Whether the table of n places, from `base` on in the list m, tells of a link: where its spot has a number, that match has its direction.
 -- The matches stand in the list l.
@@ -43,7 +43,7 @@ unfoldable pub tells : ℕ → ℕ → ℕ → List ℕ → List ℕ → Link �
 tells base n start m l x =
     nat_lt x.spot n
     && (not (slice_index m (base + x.spot) == 0)
-    && x.direction == numberedDirection start l (slice_index m (base + x.spot)))
+    && x.direction == numbered_direction start l (slice_index m (base + x.spot)))
 
 -- All but the table is as it was.
 pub record Kept (base n : ℕ) (now was : List ℕ) : Type 0 where
@@ -75,7 +75,7 @@ pub record Marked (base n start t : ℕ) (now was : List ℕ) : Type 0 where
 
 -- Whether the t new matches are the present ones; all but the table is as it was.
 pub record Compared (base n start t used : ℕ) (now was : List ℕ) (r : Bool) : Type 0 where
-  pub answer : r ≡ sameMatches (slice start (start + 2 * t) was) (take (2 * used) was)
+  pub answer : r ≡ same_matches (slice start (start + 2 * t) was) (take (2 * used) was)
   pub kept : Kept base n now was
 
 -- ---- the new matches of a round
@@ -94,12 +94,12 @@ pub record FoundTo (n q : ℕ) (points : List Float) (limit : ℕ) (r : Float) (
     (indices before after : List ℕ) (f : Tally) : Type 0 where
   pub full : f.full
       ≡ nat_lt (capacity distances indices) (length (pairs points limit (slice (2 * n) (2 * n + 2 * q) floats) (r ⊗ r)))
-  pub within : f.within ≡ spotsWithin points limit
+  pub within : f.within ≡ spots_within points limit
   pub comparisons : f.comparisons
       ≡ cond f.full 0
-      (comparisons notAfter (pairs points limit (slice (2 * n) (2 * n + 2 * q) floats) (r ⊗ r)))
+      (comparisons not_after (pairs points limit (slice (2 * n) (2 * n + 2 * q) floats) (r ⊗ r)))
   pub found : f.full ≡ false
-      → (f.count ≡ length (matchesOf points limit (slice (2 * n) (2 * n + 2 * q) floats) (r ⊗ r)))
+      → (f.count ≡ length (matches_of points limit (slice (2 * n) (2 * n + 2 * q) floats) (r ⊗ r)))
       × NewAt n f.within f.count
-      (renamedBy (slice (3 * n) (3 * n + q) before)
-      (flat (matchesOf points limit (slice (2 * n) (2 * n + 2 * q) floats) (r ⊗ r)))) before after
+      (renamed_by (slice (3 * n) (3 * n + q) before)
+      (flat (matches_of points limit (slice (2 * n) (2 * n + 2 * q) floats) (r ⊗ r)))) before after

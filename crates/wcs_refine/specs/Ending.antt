@@ -1,20 +1,20 @@
 -- How a call begins and ends its run, as the code's parts do it. Definitions only. Assumes nothing.
 use Rattle.std.specs.Prelude.{◌≡◌, ℕ, ◌/◌, List, ◌++◌, length, drop, Float}
 use Rattle.fit.specs.Rows.{rows}
-use Rattle.entry.specs.Fixed.{Fixed, startPoseOf}
+use Rattle.entry.specs.Fixed.{Fixed, start_pose_of}
 use Rattle.query.specs.Query.{empty}
 use Rattle.wcs_refine.specs.Closing.{Closed, unsound, fine, reported}
 use Rattle.wcs_refine.specs.Call.{Answer, no, ok}
-use Rattle.wcs_refine.specs.Keeping.{heldState}
-use Rattle.wcs_refine.specs.Returned.{valuesOf}
+use Rattle.wcs_refine.specs.Keeping.{held_state}
+use Rattle.wcs_refine.specs.Returned.{values_of}
 use Rattle.wcs_refine.specs.declared.WcsRefineResult.{WcsRefineResult}
 use Rattle.query.specs.declared.Held.{Held}
 
 -- The state that the run starts from: the starting matches at the front of the working list, and no cached query.
 pub record Begun (matches : List ℕ) (rotation : List (List Float)) (scale : Float) (after : List ℕ)
     (h : Held) : Type 0 where
-  pub state : (n : ℕ) → heldState n h after
-      ≡ record { pose = startPoseOf rotation scale; matches = matches; cache = empty }
+  pub state : (n : ℕ) → held_state n h after
+      ≡ record { pose = start_pose_of rotation scale; matches = matches; cache = empty }
   pub used : h.used ≡ length matches / 2
   pub cached : h.cached ≡ 0
 
@@ -25,11 +25,11 @@ concluded k spots directions (fine p ms) rounds passes queries comparisons =
     ok (reported k p ms (rows spots directions ms)) rounds passes queries comparisons
 
 -- The result list after an answer: it starts with the matches, or is as it came.
-unfoldable pub resultAfter : List ℕ → Answer → List ℕ
-resultAfter l (no n) = l
-resultAfter l (ok r rounds passes queries comparisons) = r.matches ++ drop (length r.matches) l
+unfoldable pub result_after : List ℕ → Answer → List ℕ
+result_after l (no n) = l
+result_after l (ok r rounds passes queries comparisons) = r.matches ++ drop (length r.matches) l
 
 -- The values handed back, and the result list, are those of an answer.
 pub record Answered (a : Answer) (before after : List ℕ) (r : WcsRefineResult) : Type 0 where
-  pub values : r ≡ valuesOf a
-  pub list : after ≡ resultAfter before a
+  pub values : r ≡ values_of a
+  pub list : after ≡ result_after before a

@@ -5,13 +5,13 @@
 use Rattle.std.specs.Prelude.{◌≡◌, ℕ, zero, suc, ◌+◌, ◌*◌, ◌/◌, ◌≤◌, Bool, true, false, List, length, take, Float}
 use Rattle.std.proofs.Math.Seq.{slice}
 use Rattle.pairs.specs.Candidates.{capacity}
-use Rattle.panel.specs.Spots.{spotNumbers}
-use Rattle.panel.specs.Points.{coordinates, pointsOf}
+use Rattle.panel.specs.Spots.{spot_numbers}
+use Rattle.panel.specs.Points.{coordinates, points_of}
 use Rattle.entry.specs.declared.Settings.{Settings}
-use Rattle.entry.specs.Entry.{fixedOf}
+use Rattle.entry.specs.Entry.{fixed_of}
 use Rattle.query.specs.Query.{Cache, empty, full, Prediction}
 use Rattle.wcs_refine.specs.Associate.{laid}
-use Rattle.wcs_refine.specs.Listing.{idsOf}
+use Rattle.wcs_refine.specs.Listing.{ids_of}
 use Rattle.wcs_refine.specs.Round.{State, Next, go, done, refuse, associated, compared, searched, round, Ending, refused, ended, loop}
 use Rattle.query.specs.declared.Held.{Held}
 use Rattle.wcs_refine.specs.declared.keeping.Verdict.{Verdict}
@@ -25,24 +25,24 @@ use Rattle.wcs_refine.specs.declared.rounds.Ran.{Ran}
 -- ---- the state
 
 -- `reassoc_cache` as "a flag, boresight, theta and a part of the working list": what the four mean.
-unfoldable pub cacheOf : Bool → List Float → Float → List ℕ → Cache
-cacheOf true b theta listed = full b theta listed
-cacheOf false b theta listed = empty
+unfoldable pub cache_of : Bool → List Float → Float → List ℕ → Cache
+cache_of true b theta listed = full b theta listed
+cache_of false b theta listed = empty
 
 -- The cached query of a state by value and a list of whole numbers, and its matches, flat.
-abbrev pub heldCache : ℕ → Held → List ℕ → Cache
-heldCache n h l = cacheOf h.filled h.boresight h.theta (slice (2 * n) (2 * n + h.cached) l)
+abbrev pub held_cache : ℕ → Held → List ℕ → Cache
+held_cache n h l = cache_of h.filled h.boresight h.theta (slice (2 * n) (2 * n + h.cached) l)
 
-abbrev pub heldMatches : Held → List ℕ → List ℕ
-heldMatches h l = take (2 * h.used) l
+abbrev pub held_matches : Held → List ℕ → List ℕ
+held_matches h l = take (2 * h.used) l
 
 -- What a state by value and a list of whole numbers mean together.
-abbrev pub heldState : ℕ → Held → List ℕ → State
-heldState n h l = record { pose = h.pose; matches = heldMatches h l; cache = heldCache n h l }
+abbrev pub held_state : ℕ → Held → List ℕ → State
+held_state n h l = record { pose = h.pose; matches = held_matches h l; cache = held_cache n h l }
 
 -- The same state with another count of matches.
-abbrev pub withUsed : Held → ℕ → Held
-withUsed h n = record {
+abbrev pub with_used : Held → ℕ → Held
+with_used h n = record {
   pose = h.pose;
   used = n;
   filled = h.filled;
@@ -73,7 +73,7 @@ pub record Matchable (k : Settings) (n q spots : ℕ) (numbers : List ℕ) (floa
 pub record Ready (k : Settings) (n : ℕ) (spots directions : List Float) (numbers : List ℕ)
     (floats distances : List Float) (indices : List ℕ) : Type 0 where
   pub roomy : Roomy k n directions numbers floats
-  pub matchable : Matchable k n k.count (length spots / spotNumbers) numbers floats distances indices
+  pub matchable : Matchable k n k.count (length spots / spot_numbers) numbers floats distances indices
 
 -- A state has room in its regions.
 pub record Fits (k : Settings) (n : ℕ) (h : Held) : Type 0 where
@@ -83,14 +83,14 @@ pub record Fits (k : Settings) (n : ℕ) (h : Held) : Type 0 where
 -- ---- the search of a round
 
 -- What the code's verdict means of a state.
-unfoldable pub nextOf : Verdict → State → Next
-nextOf GoOn s = go s
-nextOf Done s = done s
-nextOf (Refused x) s = refuse x
+unfoldable pub next_of : Verdict → State → Next
+next_of GoOn s = go s
+next_of Done s = done s
+next_of (Refused x) s = refuse x
 
 -- The predictions stand in their regions: so many.
 pub record Predicted (n q : ℕ) (numbers : List ℕ) (floats : List Float) (qs : List Prediction) : Type 0 where
-  pub ids : idsOf qs ≡ slice (3 * n) (3 * n + q) numbers
+  pub ids : ids_of qs ≡ slice (3 * n) (3 * n + q) numbers
   pub points : laid qs ≡ slice (2 * n) (2 * n + 2 * q) floats
 
 -- The points of the first k spots stand from a place on; what stands in front of it is as it was.
@@ -103,9 +103,9 @@ pub record PointsAt (spots : List Float) (k to : ℕ) (before after : List Float
 pub record AssociatedTo (k : Settings) (n : ℕ) (points : List Float) (h : Held) (r : Float) (q : ℕ) (before : List ℕ)
     (floats : List Float) (after : List ℕ) (s : Step) : Type 0 where
   pub next : (qs : List Prediction) → Predicted n q before floats qs →
-      nextOf s.verdict (heldState n s.held after)
-      ≡ associated (fixedOf k) points h.pose (heldMatches h before) (heldCache n h before) r qs
-  pub comparisons : (qs : List Prediction) → Predicted n q before floats qs → s.comparisons ≡ compared (fixedOf k) points r qs
+      next_of s.verdict (held_state n s.held after)
+      ≡ associated (fixed_of k) points h.pose (held_matches h before) (held_cache n h before) r qs
+  pub comparisons : (qs : List Prediction) → Predicted n q before floats qs → s.comparisons ≡ compared (fixed_of k) points r qs
   pub fits : Fits k n s.held
 
 -- What the search makes of a state comes down to the matcher on the predictions that now stand in their regions.
@@ -116,13 +116,13 @@ pub record LookedTo (k : Settings) (n : ℕ) (directions : List Float) (h : Held
   pub predicted : Predicted n r.predicted after floats predictions
   pub few : r.predicted ≤ k.count
   pub searched : (spots : List Float) (ms : List ℕ) (radius : Float) →
-      searched (fixedOf k) spots directions h.pose ms radius (heldCache n h before)
+      searched (fixed_of k) spots directions h.pose ms radius (held_cache n h before)
       ≡ record {
         next =
-            associated (fixedOf k) (pointsOf spots k.limit) h.pose ms (heldCache n r.held after) radius
+            associated (fixed_of k) (points_of spots k.limit) h.pose ms (held_cache n r.held after) radius
             predictions;
         queries = queries;
-        comparisons = compared (fixedOf k) (pointsOf spots k.limit) radius predictions;
+        comparisons = compared (fixed_of k) (points_of spots k.limit) radius predictions;
       }
   pub count : r.queries ≡ length queries
   pub pose : r.held.pose ≡ h.pose
@@ -133,13 +133,13 @@ pub record LookedTo (k : Settings) (n : ℕ) (directions : List Float) (h : Held
 -- The code's search of a round, at the state h, is that of the definition.
 pub record SearchedTo (k : Settings) (n : ℕ) (spots directions : List Float) (h : Held) (radius : Float)
     (before after : List ℕ) (s : Sought) : Type 0 where
-  pub next : nextOf s.verdict (heldState n s.held after)
-      ≡ (searched (fixedOf k) spots directions h.pose (heldMatches h before) radius (heldCache n h before)).next
+  pub next : next_of s.verdict (held_state n s.held after)
+      ≡ (searched (fixed_of k) spots directions h.pose (held_matches h before) radius (held_cache n h before)).next
   pub count : s.queries
       ≡ length
-      (searched (fixedOf k) spots directions h.pose (heldMatches h before) radius (heldCache n h before)).queries
+      (searched (fixed_of k) spots directions h.pose (held_matches h before) radius (held_cache n h before)).queries
   pub comparisons : s.comparisons
-      ≡ (searched (fixedOf k) spots directions h.pose (heldMatches h before) radius (heldCache n h before)).comparisons
+      ≡ (searched (fixed_of k) spots directions h.pose (held_matches h before) radius (held_cache n h before)).comparisons
   pub fits : Fits k n s.held
 
 -- ---- one round, and the loop
@@ -147,25 +147,25 @@ pub record SearchedTo (k : Settings) (n : ℕ) (spots directions : List Float) (
 -- One round of the code, from the state h, is one of the definition.
 pub record RoundTo (k : Settings) (n : ℕ) (spots directions : List Float) (h : Held) (before after : List ℕ)
     (s : Rounded) : Type 0 where
-  pub next : nextOf s.verdict (heldState n s.held after)
-      ≡ (round (fixedOf k) spots directions (heldState n h before)).found.next
-  pub count : s.queries ≡ length (round (fixedOf k) spots directions (heldState n h before)).found.queries
-  pub comparisons : s.comparisons ≡ (round (fixedOf k) spots directions (heldState n h before)).found.comparisons
-  pub passes : s.passes ≡ (round (fixedOf k) spots directions (heldState n h before)).passes
+  pub next : next_of s.verdict (held_state n s.held after)
+      ≡ (round (fixed_of k) spots directions (held_state n h before)).found.next
+  pub count : s.queries ≡ length (round (fixed_of k) spots directions (held_state n h before)).found.queries
+  pub comparisons : s.comparisons ≡ (round (fixed_of k) spots directions (held_state n h before)).found.comparisons
+  pub passes : s.passes ≡ (round (fixed_of k) spots directions (held_state n h before)).passes
   pub fits : Fits k n s.held
 
 -- How the code's loop ended: the number of a refusal, or 0 and a state.
-unfoldable pub endingOf : ℕ → State → Ending
-endingOf zero s = ended s
-endingOf (suc x) s = refused (suc x)
+unfoldable pub ending_of : ℕ → State → Ending
+ending_of zero s = ended s
+ending_of (suc x) s = refused (suc x)
 
 -- The code's loop, at most so many rounds from the state h, is that of the definition, with its counts.
 pub record RanTo (k : Settings) (n : ℕ) (spots directions : List Float) (most : ℕ) (h : Held) (before after : List ℕ)
     (r : Ran) : Type 0 where
-  pub ending : endingOf r.refusal (heldState n r.held after)
-      ≡ (loop (fixedOf k) spots directions most (heldState n h before)).ending
-  pub rounds : r.rounds ≡ (loop (fixedOf k) spots directions most (heldState n h before)).rounds
-  pub passes : r.passes ≡ (loop (fixedOf k) spots directions most (heldState n h before)).passes
-  pub count : r.queries ≡ length (loop (fixedOf k) spots directions most (heldState n h before)).queries
-  pub comparisons : r.comparisons ≡ (loop (fixedOf k) spots directions most (heldState n h before)).comparisons
+  pub ending : ending_of r.refusal (held_state n r.held after)
+      ≡ (loop (fixed_of k) spots directions most (held_state n h before)).ending
+  pub rounds : r.rounds ≡ (loop (fixed_of k) spots directions most (held_state n h before)).rounds
+  pub passes : r.passes ≡ (loop (fixed_of k) spots directions most (held_state n h before)).passes
+  pub count : r.queries ≡ length (loop (fixed_of k) spots directions most (held_state n h before)).queries
+  pub comparisons : r.comparisons ≡ (loop (fixed_of k) spots directions most (held_state n h before)).comparisons
   pub fits : Fits k n r.held

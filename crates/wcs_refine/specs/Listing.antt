@@ -13,20 +13,20 @@ points f [] = []
 points f (j ∷ js) = cond (f j).inside ((f j).x ∷ (f j).y ∷ points f js) (points f js)
 
 -- The directions of predictions.
-unfoldable pub idsOf : List Prediction → List ℕ
-idsOf [] = []
-idsOf (q ∷ qs) = q.direction ∷ idsOf qs
+unfoldable pub ids_of : List Prediction → List ℕ
+ids_of [] = []
+ids_of (q ∷ qs) = q.direction ∷ ids_of qs
 
 -- Matches laid flat, spot and place, with the direction that stands at the place; 0 past the end.
-unfoldable pub renamedBy : List ℕ → List ℕ → List ℕ
-renamedBy ids [] = []
-renamedBy ids (s ∷ []) = []
-renamedBy ids (s ∷ p ∷ ms) = s ∷ slice_index ids p ∷ renamedBy ids ms
+unfoldable pub renamed_by : List ℕ → List ℕ → List ℕ
+renamed_by ids [] = []
+renamed_by ids (s ∷ []) = []
+renamed_by ids (s ∷ p ∷ ms) = s ∷ slice_index ids p ∷ renamed_by ids ms
 
 -- Of the n numbers from a place on, those that reach the panel stand from another place on, and their points at the front of a list of floats;
 -- the n numbers and all else are as they were.
-pub record Told (f : ℕ → Fall) (start n to : ℕ) (was now : List ℕ) (xyWas xyNow : List Float) (r : ℕ) : Type 0 where
+pub record Told (f : ℕ → Fall) (start n to : ℕ) (was now : List ℕ) (xy_was xy_now : List Float) (r : ℕ) : Type 0 where
   pub count : r ≡ length (standing f (slice start (start + n) was))
   pub ids : now ≡ take to was ++ standing f (slice start (start + n) was) ++ drop (to + r) was
-  pub xy : xyNow ≡ fronted (points f (slice start (start + n) was)) xyWas
+  pub xy : xy_now ≡ fronted (points f (slice start (start + n) was)) xy_was
   pub unchanged : slice start (start + n) now ≡ slice start (start + n) was

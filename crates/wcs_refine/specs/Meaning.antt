@@ -2,69 +2,69 @@
 -- `proofs/RoundMeaning.antt`. Assumes nothing.
 use Rattle.std.specs.Prelude.{◌≡◌, ℕ, ◌/◌, ◌<◌, ◌≤◌, true, cond, ◌⊎◌, List, length, slice_index_or, Float}
 use Rattle.rounding.specs.Arith.{◌⊗◌}
-use Rattle.pairs.specs.Pairs.{pointAt, pairs, spotsWithin}
+use Rattle.pairs.specs.Pairs.{point_at, pairs, spots_within}
 use Rattle.pairs.specs.Candidates.{point}
 use Rattle.matching.specs.Greedy.{Match}
 use Rattle.matching.specs.Meaning.{Frame, TheMatches}
-use Rattle.project.specs.Camera.{cameraRows}
-use Rattle.panel.specs.Spots.{spotAt}
-use Rattle.panel.specs.Points.{withinLimit, pointsOf}
-use Rattle.fit.specs.Rows.{rows, viewOf}
+use Rattle.project.specs.Camera.{camera_rows}
+use Rattle.panel.specs.Spots.{spot_at}
+use Rattle.panel.specs.Points.{within_limit, points_of}
+use Rattle.fit.specs.Rows.{rows, view_of}
 use Rattle.residuals.specs.Residual.{residuals}
 use Rattle.entry.specs.Fixed.{Fixed}
-use Rattle.passes.specs.Fit.{Passes, fitPasses}
+use Rattle.passes.specs.Fit.{Passes, fit_passes}
 use Rattle.query.specs.Query.{Cache, empty, full, query, drifted, Prediction, predictions}
 use Rattle.wcs_refine.specs.Clip.{Statistics, statistics, clipped}
-use Rattle.wcs_refine.specs.Associate.{adaptivePx, laid, directionOf, renamed}
-use Rattle.wcs_refine.specs.Round.{State, Next, refuse, settled, mostPasses, round}
+use Rattle.wcs_refine.specs.Associate.{adaptive_px, laid, direction_of, renamed}
+use Rattle.wcs_refine.specs.Round.{State, Next, refuse, settled, most_passes, round}
 
 -- A round: what is fixed for its call, the spots and directions lent, and the state that it starts from, whatever that is.
 module _ (k : Fixed) (spots directions : List Float) (s : State) where
   -- Phase A: the fit passes, with the pose that they leave;
   abbrev pub fit : Passes
-  fit = fitPasses mostPasses k.cut (rows spots directions s.matches) s.pose
+  fit = fit_passes most_passes k.cut (rows spots directions s.matches) s.pose
 
   -- then the residuals of its matches at that pose, with their statistics, by which the radius goes.
   abbrev pub measured : List Float
-  measured = residuals (viewOf fit.pose k.cut) (rows spots directions s.matches)
+  measured = residuals (view_of fit.pose k.cut) (rows spots directions s.matches)
 
   abbrev pub spread : Statistics
   spread = statistics measured
 
   abbrev pub radius : Float
-  radius = adaptivePx k spread
+  radius = adaptive_px k spread
 
   -- The directions that are listed: the cached ones, unless nothing is cached or the pose has drifted from where they were queried; else those of a query
   -- at the pose.
-  abbrev pub listedBy : Cache → List ℕ
-  listedBy empty = query k directions fit.pose
-  listedBy (full b theta listed) = cond (drifted k fit.pose b theta) (query k directions fit.pose) listed
+  abbrev pub listed_by : Cache → List ℕ
+  listed_by empty = query k directions fit.pose
+  listed_by (full b theta listed) = cond (drifted k fit.pose b theta) (query k directions fit.pose) listed
 
   -- Where they fall on the panel.
   abbrev pub predicted : List Prediction
-  predicted = predictions k directions (cameraRows fit.pose.theta fit.pose.ra fit.pose.dec) (listedBy s.cache)
+  predicted = predictions k directions (camera_rows fit.pose.theta fit.pose.ra fit.pose.dec) (listed_by s.cache)
 
   -- What the matcher is given in the round.
   abbrev pub frame : Frame
   frame = record {
-    points = pointsOf spots k.limit;
+    points = points_of spots k.limit;
     limit = k.limit;
     predicted = laid predicted;
-    radius-sq = radius ⊗ radius;
+    radius_sq = radius ⊗ radius;
   }
 
-  -- Its places: a spot's is its number among those lent, and a prediction's its place in `predicted`; j is named by `directionOf predicted j`.
+  -- Its places: a spot's is its number among those lent, and a prediction's its place in `predicted`; j is named by `direction_of predicted j`.
   pub record Places : Type 0 where
-    pub spots-many : spotsWithin frame.points frame.limit ≡ withinLimit spots k.limit
-    pub spot : (i : ℕ) → i < withinLimit spots k.limit → pointAt frame.points i ≡ point (spotAt spots i).px (spotAt spots i).py
-    pub predictions-many : length frame.predicted / 2 ≡ length predicted
+    pub spots_many : spots_within frame.points frame.limit ≡ within_limit spots k.limit
+    pub spot : (i : ℕ) → i < within_limit spots k.limit → point_at frame.points i ≡ point (spot_at spots i).px (spot_at spots i).py
+    pub predictions_many : length frame.predicted / 2 ≡ length predicted
     pub prediction : (j : ℕ) (past : Prediction) → j < length predicted →
         let q = slice_index_or predicted j past in
-        (pointAt frame.predicted j ≡ point q.x q.y) × (directionOf predicted j ≡ q.direction)
+        (point_at frame.predicted j ≡ point q.x q.y) × (direction_of predicted j ≡ q.direction)
 
   -- How many pairs lie within the radius, which refusal 13 goes by.
   abbrev pub found : ℕ
-  found = length (pairs frame.points frame.limit frame.predicted frame.radius-sq)
+  found = length (pairs frame.points frame.limit frame.predicted frame.radius_sq)
 
   -- The matches of the round are the one list. The round is refused with 13, or goes on by that list alone, each prediction named by its direction, and with
   -- some query cached for the next.

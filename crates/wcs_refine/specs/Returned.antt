@@ -9,8 +9,8 @@ use Rattle.wcs_refine.specs.Call.{Answer, no, ok, Outcome, outcome}
 use Rattle.wcs_refine.specs.declared.WcsRefineResult.{WcsRefineResult}
 
 -- "A refusal gives its number; pose and counts are zero."
-unfoldable pub refusedWith : ℕ → WcsRefineResult
-refusedWith n =
+unfoldable pub refused_with : ℕ → WcsRefineResult
+refused_with n =
     let z2 = zero64 ∷ zero64 ∷ [] in
     let z3 = zero64 ∷ zero64 ∷ zero64 ∷ [] in
     let p : Pose = record { theta = zero64; ra = zero64; dec = zero64; scale = zero64 } in
@@ -49,10 +49,10 @@ accepted r rounds passes queries comparisons = record {
 }
 
 -- "If an answer is an enum, a definition states this paper's number and values for each of its cases."
-unfoldable pub valuesOf : Answer → WcsRefineResult
-unfolding refusedWith accepted
-valuesOf (no n) = refusedWith n
-valuesOf (ok r rounds passes queries comparisons) = accepted r rounds passes queries comparisons
+unfoldable pub values_of : Answer → WcsRefineResult
+unfolding refused_with accepted
+values_of (no n) = refused_with n
+values_of (ok r rounds passes queries comparisons) = accepted r rounds passes queries comparisons
 
 -- What a call hands back, and what the lent lists hold then.
 pub record Returned : Type 0 where
@@ -61,8 +61,8 @@ pub record Returned : Type 0 where
 
 -- The same of the outcome of a call.
 unfoldable pub returned : Outcome → Returned
-unfolding valuesOf
-returned o = record { result = valuesOf o.answer; lent = o.lent }
+unfolding values_of
+returned o = record { result = values_of o.answer; lent = o.lent }
 
 -- The arguments of the code, in its order: the lent lists, and the call that they are part of.
 abbrev pub lists : List ℕ → List Float → List Float → List ℕ → List ℕ → Lent

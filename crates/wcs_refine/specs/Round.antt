@@ -2,19 +2,19 @@
 use Rattle.std.specs.Prelude.{ℕ, zero, suc, ◌+◌, ◌/◌, max, Bool, true, false, cond, not, ◌&&◌, List, [], ◌∷◌, ◌++◌, length, nat_le, nat_lt, Float}
 use Rattle.rounding.specs.Arith.{◌⊗◌}
 use Rattle.pairs.specs.Pairs.{pairs}
-use Rattle.matching.specs.Merge.{notAfter}
+use Rattle.matching.specs.Merge.{not_after}
 use Rattle.matching.specs.Comparisons.{comparisons}
-use Rattle.matching.specs.Greedy.{matchesOf}
-use Rattle.project.specs.Camera.{boresight, cameraRows}
-use Rattle.panel.specs.Points.{pointsOf}
-use Rattle.fit.specs.Rows.{Row, rows, viewOf}
+use Rattle.matching.specs.Greedy.{matches_of}
+use Rattle.project.specs.Camera.{boresight, camera_rows}
+use Rattle.panel.specs.Points.{points_of}
+use Rattle.fit.specs.Rows.{Row, rows, view_of}
 use Rattle.residuals.specs.Residual.{residuals}
 use Rattle.fit.specs.declared.Pose.{Pose}
 use Rattle.entry.specs.Fixed.{Fixed}
-use Rattle.passes.specs.Fit.{Passes, fitPasses}
+use Rattle.passes.specs.Fit.{Passes, fit_passes}
 use Rattle.wcs_refine.specs.Clip.{statistics, clipped}
 use Rattle.query.specs.Query.{Cache, empty, full, query, drifted, Prediction, predictions, pruned}
-use Rattle.wcs_refine.specs.Associate.{adaptivePx, laid, renamed, sameMatches}
+use Rattle.wcs_refine.specs.Associate.{adaptive_px, laid, renamed, same_matches}
 
 -- What a round starts from and leaves: the pose, the matches, flat, and the cached query.
 pub record State : Type 0 where
@@ -40,58 +40,58 @@ pub record Round : Type 0 where
   pub passes : ℕ
 
 -- `if new_matches.len() >= 4`
-abbrev pub fewestNew : ℕ
-fewestNew = 4
+abbrev pub fewest_new : ℕ
+fewest_new = 4
 
 -- "reaching here means re-association produced no change": at least 4 new matches that differ from the present ones take their place.
 unfoldable pub settled : Pose → List ℕ → Cache → List ℕ → Next
-unfolding sameMatches
+unfolding same_matches
 settled p ms c new =
-    cond (nat_le fewestNew (length new / 2) && not (sameMatches new ms))
+    cond (nat_le fewest_new (length new / 2) && not (same_matches new ms))
     (go (record { pose = p; matches = new; cache = c }))
     (done (record { pose = p; matches = ms; cache = c }))
 
 -- `greedy_unique_matches` on the spots' points, with refusal 13: "A round finds more in-radius pairs than the candidate list holds".
 unfoldable pub associated : Fixed → List Float → Pose → List ℕ → Cache → Float → List Prediction → Next
-unfolding settled renamed laid pairs matchesOf
+unfolding settled renamed laid pairs matches_of
 associated k points p ms c r qs =
     cond (nat_lt k.capacity (length (pairs points k.limit (laid qs) (r ⊗ r)))) (refuse 13)
-    (settled p ms c (renamed qs (matchesOf points k.limit (laid qs) (r ⊗ r))))
+    (settled p ms c (renamed qs (matches_of points k.limit (laid qs) (r ⊗ r))))
 
 -- 02, CR 14: "The matcher's ordering of pairs shall count its comparisons". A round that is refused with 13 orders none.
 unfoldable pub compared : Fixed → List Float → Float → List Prediction → ℕ
-unfolding laid pairs comparisons notAfter
+unfolding laid pairs comparisons not_after
 compared k points r qs =
     cond (nat_lt k.capacity (length (pairs points k.limit (laid qs) (r ⊗ r)))) 0
-    (comparisons notAfter (pairs points k.limit (laid qs) (r ⊗ r)))
+    (comparisons not_after (pairs points k.limit (laid qs) (r ⊗ r)))
 
 -- Phase D after the fresh query `listed`: it is counted, and what lies beyond keep_r is not cached.
 unfoldable pub fresh : Fixed → List Float → List Float → Pose → List ℕ → Float → List ℕ → Found
-unfolding associated compared pointsOf predictions pruned cameraRows boresight
+unfolding associated compared points_of predictions pruned camera_rows boresight
 fresh k spots directions p ms r listed =
-    let rows = cameraRows p.theta p.ra p.dec in
+    let rows = camera_rows p.theta p.ra p.dec in
     record {
       next =
-          associated k (pointsOf spots k.limit) p ms
+          associated k (points_of spots k.limit) p ms
           (full (boresight p.ra p.dec) p.theta (pruned k directions rows listed)) r
           (predictions k directions rows listed);
       queries = listed ∷ [];
-      comparisons = compared k (pointsOf spots k.limit) r (predictions k directions rows listed);
+      comparisons = compared k (points_of spots k.limit) r (predictions k directions rows listed);
     }
 
 -- Phase D with the query cached at boresight b and roll theta: a fresh one where the pose has drifted from it, else the cached one, uncounted.
 unfoldable pub reused : Fixed → List Float → List Float → Pose → List ℕ → Float → List Float → Float → List ℕ → Bool
     → Found
-unfolding fresh associated compared pointsOf predictions query cameraRows
+unfolding fresh associated compared points_of predictions query camera_rows
 reused k spots directions p ms r b theta listed true = fresh k spots directions p ms r (query k directions p)
 reused k spots directions p ms r b theta listed false = record {
   next =
-      associated k (pointsOf spots k.limit) p ms (full b theta listed) r
-      (predictions k directions (cameraRows p.theta p.ra p.dec) listed);
+      associated k (points_of spots k.limit) p ms (full b theta listed) r
+      (predictions k directions (camera_rows p.theta p.ra p.dec) listed);
   queries = [];
   comparisons =
-      compared k (pointsOf spots k.limit) r
-      (predictions k directions (cameraRows p.theta p.ra p.dec) listed);
+      compared k (points_of spots k.limit) r
+      (predictions k directions (camera_rows p.theta p.ra p.dec) listed);
 }
 
 -- Phase D, "Re-associate", with the matcher's radius r: "(Re)query the catalog cone only when the cache is empty or the fit has drifted past a margin."
@@ -103,33 +103,33 @@ searched k spots directions p ms r (full b theta listed) =
 
 -- Phases B to D, at the pose that the passes left.
 unfoldable pub rest : Fixed → List Float → List Float → Pose → List ℕ → Cache → List Float → Found
-unfolding searched statistics clipped adaptivePx
+unfolding searched statistics clipped adaptive_px
 rest k spots directions p ms c rs =
     let t = statistics rs in
-    searched k spots directions p (clipped rs t ms) (adaptivePx k t) c
+    searched k spots directions p (clipped rs t ms) (adaptive_px k t) c
 
 -- After Phase A: where its passes met refusal 12 the round ends with it, and makes no query and no comparison; else phases B to D at the pose that they
 -- left.
 unfoldable pub fitted : Fixed → List Float → List Float → State → List Row → Passes → Round
-unfolding rest residuals viewOf
+unfolding rest residuals view_of
 fitted k spots directions s rs f = record {
   found =
       cond f.fine
-      (rest k spots directions f.pose s.matches s.cache (residuals (viewOf f.pose k.cut) rs))
+      (rest k spots directions f.pose s.matches s.cache (residuals (view_of f.pose k.cut) rs))
       (record { next = refuse 12; queries = []; comparisons = 0 });
   passes = f.passes;
 }
 
 -- `for inner_iter in 0..10`
-abbrev pub mostPasses : ℕ
-mostPasses = 10
+abbrev pub most_passes : ℕ
+most_passes = 10
 
 -- One turn of the "outer refinement loop": Phase A, the passes of the fit, then the rest.
 unfoldable pub round : Fixed → List Float → List Float → State → Round
-unfolding fitted fitPasses rows
+unfolding fitted fit_passes rows
 round k spots directions s =
     let rs = rows spots directions s.matches in
-    fitted k spots directions s rs (fitPasses mostPasses k.cut rs s.pose)
+    fitted k spots directions s rs (fit_passes most_passes k.cut rs s.pose)
 
 -- ---- the loop
 

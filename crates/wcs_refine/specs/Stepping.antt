@@ -1,14 +1,14 @@
 -- What the parts of a round answer. Definitions only. Assumes nothing.
 use Rattle.std.specs.Prelude.{◌≡◌, ℕ, ◌*◌, ◌/◌, ◌≤◌, Bool, true, false, List, length, take, Float}
-use Rattle.fit.specs.Rows.{rows, viewOf}
+use Rattle.fit.specs.Rows.{rows, view_of}
 use Rattle.residuals.specs.Residual.{residuals}
 use Rattle.fit.specs.declared.Pose.{Pose}
 use Rattle.entry.specs.declared.Settings.{Settings}
-use Rattle.entry.specs.Entry.{fixedOf}
+use Rattle.entry.specs.Entry.{fixed_of}
 use Rattle.wcs_refine.specs.Clip.{statistics, clipped}
-use Rattle.wcs_refine.specs.Associate.{adaptivePx}
+use Rattle.wcs_refine.specs.Associate.{adaptive_px}
 use Rattle.wcs_refine.specs.Round.{Found, rest}
-use Rattle.wcs_refine.specs.Keeping.{heldCache, heldMatches, heldState, Fits, nextOf}
+use Rattle.wcs_refine.specs.Keeping.{held_cache, held_matches, held_state, Fits, next_of}
 use Rattle.query.specs.declared.Held.{Held}
 use Rattle.wcs_refine.specs.declared.keeping.Verdict.{Verdict}
 use Rattle.wcs_refine.specs.declared.keeping.Verdict.TheVariants.{GoOn, Done, Refused}
@@ -32,33 +32,33 @@ stopped GoOn = false
 stopped Done = true
 stopped (Refused x) = true
 
-unfoldable pub refusalOf : Verdict → ℕ
-refusalOf GoOn = 0
-refusalOf Done = 0
-refusalOf (Refused x) = x
+unfoldable pub refusal_of : Verdict → ℕ
+refusal_of GoOn = 0
+refusal_of Done = 0
+refusal_of (Refused x) = x
 
 -- The residuals of matches at a pose.
-abbrev pub residualsAt : Settings → List Float → List Float → Pose → List ℕ → List Float
-residualsAt k spots directions p ms = residuals (viewOf p k.cut) (rows spots directions ms)
+abbrev pub residuals_at : Settings → List Float → List Float → Pose → List ℕ → List Float
+residuals_at k spots directions p ms = residuals (view_of p k.cut) (rows spots directions ms)
 
 -- So many matches the clip leaves, at the front of their list, and the matcher's radius after it.
 pub record TrimmedTo (k : Settings) (spots directions : List Float) (p : Pose) (before after : List ℕ)
     (r : Trimmed) : Type 0 where
   pub fewer : r.used ≤ length before / 2
   pub front : take (2 * r.used) after
-      ≡ clipped (residualsAt k spots directions p before) (statistics (residualsAt k spots directions p before)) before
-  pub radius : r.radius ≡ adaptivePx (fixedOf k) (statistics (residualsAt k spots directions p before))
+      ≡ clipped (residuals_at k spots directions p before) (statistics (residuals_at k spots directions p before)) before
+  pub radius : r.radius ≡ adaptive_px (fixed_of k) (statistics (residuals_at k spots directions p before))
 
 -- What phases B to D come to, from the pose of the state h.
-abbrev pub restOf : Settings → ℕ → List Float → List Float → Held → List ℕ → Found
-restOf k n spots directions h l =
-    rest (fixedOf k) spots directions h.pose (heldMatches h l) (heldCache n h l)
-    (residualsAt k spots directions h.pose (heldMatches h l))
+abbrev pub rest_of : Settings → ℕ → List Float → List Float → Held → List ℕ → Found
+rest_of k n spots directions h l =
+    rest (fixed_of k) spots directions h.pose (held_matches h l) (held_cache n h l)
+    (residuals_at k spots directions h.pose (held_matches h l))
 
 -- The code's phases B to D, from the state h, are those of the definition.
 pub record RestTo (k : Settings) (n : ℕ) (spots directions : List Float) (h : Held) (before after : List ℕ)
     (s : Sought) : Type 0 where
-  pub next : nextOf s.verdict (heldState n s.held after) ≡ (restOf k n spots directions h before).next
-  pub count : s.queries ≡ length (restOf k n spots directions h before).queries
-  pub comparisons : s.comparisons ≡ (restOf k n spots directions h before).comparisons
+  pub next : next_of s.verdict (held_state n s.held after) ≡ (rest_of k n spots directions h before).next
+  pub count : s.queries ≡ length (rest_of k n spots directions h before).queries
+  pub comparisons : s.comparisons ≡ (rest_of k n spots directions h before).comparisons
   pub fits : Fits k n s.held

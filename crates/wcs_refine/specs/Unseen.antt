@@ -1,11 +1,11 @@
 -- 01, "Words of demand 3", and the claim. Definitions only; the proof is `proofs/TwoCalls.antt`. Assumes nothing.
 use Rattle.std.specs.Prelude.{◌≡◌, ℕ, ◌<◌, ◌≤◌, T, ◌⊎◌, List, [], ◌∷◌, length, Float}
 use Rattle.std.specs.Float.Ieee.{le}
-use Rattle.panel.specs.Spots.{spotAt}
+use Rattle.panel.specs.Spots.{spot_at}
 use Rattle.panel.specs.declared.Spot.{Spot}
-use Rattle.fit.specs.Rows.{directionAt}
-use Rattle.entry.specs.Arguments.{Call, Lent, spotCount, directionCount}
-use Rattle.entry.specs.Check.{lawfulPlace, lawfulWeight, lawfulComponent, every}
+use Rattle.fit.specs.Rows.{direction_at}
+use Rattle.entry.specs.Arguments.{Call, Lent, spot_count, direction_count}
+use Rattle.entry.specs.Check.{lawful_place, lawful_weight, lawful_component, every}
 use Rattle.entry.specs.Fixed.{distance}
 use Rattle.wcs_refine.specs.Associate.{Link, links}
 use Rattle.wcs_refine.specs.Call.{queries, outcome}
@@ -21,10 +21,10 @@ pub record Alike (a b : Call) : Type 0 where
 -- "Unchanged: the same bits in both calls", of a spot, its weight among them, and of a direction. A float that is no NaN is determined by its bits,
 -- and a lawful number is no NaN.
 abbrev pub SpotUnchanged : Call → Call → ℕ → Type 0
-SpotUnchanged a b i = spotAt a.spots i ≡ spotAt b.spots i
+SpotUnchanged a b i = spot_at a.spots i ≡ spot_at b.spots i
 
 abbrev pub DirectionUnchanged : Call → Call → ℕ → Type 0
-DirectionUnchanged a b j = directionAt a.directions j ≡ directionAt b.directions j
+DirectionUnchanged a b j = direction_at a.directions j ≡ direction_at b.directions j
 
 -- A starting match names a spot, a direction.
 abbrev pub NamesSpot : ℕ → List Link → Type 0
@@ -46,10 +46,10 @@ Listed j (q ∷ qs) = In j q ⊎ Listed j qs
 
 -- "Lawful: each number within its range in the refusals": of a spot, of a direction.
 abbrev pub LawfulSpot : Spot → Type 0
-LawfulSpot s = T (lawfulPlace s) × T (lawfulWeight s)
+LawfulSpot s = T (lawful_place s) × T (lawful_weight s)
 
 abbrev pub LawfulDirection : List Float → Type 0
-LawfulDirection v = T (every lawfulComponent v)
+LawfulDirection v = T (every lawful_component v)
 
 -- "Beyond the limit: the spot's number, from 0, is at least the limit."
 abbrev pub Beyond : Call → ℕ → Type 0
@@ -58,27 +58,27 @@ Beyond a i = a.given.limit ≤ i
 -- "no farther by the run's distance than some unchanged spot"
 abbrev pub NoFarther : Call → Call → ℕ → Type 0
 NoFarther a b i =
-    (k : ℕ) × (k < spotCount a) × SpotUnchanged a b k
-    × T (le (distance (spotAt a.spots i)) (distance (spotAt a.spots k)))
+    (k : ℕ) × (k < spot_count a) × SpotUnchanged a b k
+    × T (le (distance (spot_at a.spots i)) (distance (spot_at a.spots k)))
 
 -- A direction is unseen in a call when no starting match names it and no cone query of the call lists it.
 pub record DirectionUnseen (a : Call) (j : ℕ) : Type 0 where
   pub unnamed : NamesDirection j (links a.given.matches) → ⊥
   pub unlisted : Listed j (queries a) → ⊥
-  pub lawful : LawfulDirection (directionAt a.directions j)
+  pub lawful : LawfulDirection (direction_at a.directions j)
 
 -- A spot is unseen in a call when it lies beyond the matching limit, no starting match names it, and it is no farther than some unchanged spot.
 pub record SpotUnseen (a b : Call) (i : ℕ) : Type 0 where
   pub beyond : Beyond a i
   pub unnamed : NamesSpot i (links a.given.matches) → ⊥
   pub nearer : NoFarther a b i
-  pub lawful : LawfulSpot (spotAt a.spots i)
+  pub lawful : LawfulSpot (spot_at a.spots i)
 
 -- Whatever differs is unseen in both calls.
 pub record OnlyUnseen (a b : Call) : Type 0 where
-  pub direction : (j : ℕ) → j < directionCount a → (DirectionUnchanged a b j → ⊥)
+  pub direction : (j : ℕ) → j < direction_count a → (DirectionUnchanged a b j → ⊥)
       → DirectionUnseen a j × DirectionUnseen b j
-  pub spot : (i : ℕ) → i < spotCount a → (SpotUnchanged a b i → ⊥) → SpotUnseen a b i × SpotUnseen b a i
+  pub spot : (i : ℕ) → i < spot_count a → (SpotUnchanged a b i → ⊥) → SpotUnseen a b i × SpotUnseen b a i
 
 -- Demand 3: "give the same refusal or the same answer, every bit and every count, and leave every lent list written to with the same contents".
 abbrev pub UnseenChangesNothing : Type 0

@@ -1,7 +1,7 @@
 // The answer's values, by case.
 ghost use Rattle.std.specs.Prelude.{◌≡◌, ℕ, ◌/◌, List, length};
-ghost use Rattle.wcs_refine.specs.Cleaning.{reportOf};
-ghost use Rattle.wcs_refine.specs.Returned.{refusedWith, accepted};
+ghost use Rattle.wcs_refine.specs.Cleaning.{report_of};
+ghost use Rattle.wcs_refine.specs.Returned.{refused_with, accepted};
 
 use crate::WcsRefineResult;
 use crate::reporting::Numbers;
@@ -9,7 +9,7 @@ use fit::Pose;
 
 // Refused: the number, and zero for all else.
 pub(crate) fn refused(number: usize) -> WcsRefineResult
-    ensures { result ≡ refusedWith number }
+    ensures { result ≡ refused_with number }
 {
     let nowhere = Pose {
         theta: 0.0,
@@ -44,7 +44,7 @@ pub(crate) fn accepted(
     queries: usize,
     comparisons: usize,
 ) -> WcsRefineResult
-    ensures { (ms : List ℕ) → length ms / 2 ≡ used → result ≡ accepted (reportOf report pose ms) rounds passes queries comparisons }
+    ensures { (ms : List ℕ) → length ms / 2 ≡ used → result ≡ accepted (report_of report pose ms) rounds passes queries comparisons }
 {
     let cd0 = report.cd0;
     let cd1 = report.cd1;

@@ -1,8 +1,8 @@
 // The second half of a round's search: the spots' points, the matcher on them and the predictions, and whether its matches are new.
 ghost use Rattle.std.specs.Prelude.{◌≡◌, ◌+◌, ◌*◌, ◌/◌, ◌≤◌, ◌++◌, length, drop};
 ghost use Rattle.std.proofs.Math.Seq.{slice};
-ghost use Rattle.panel.specs.Spots.{spotNumbers};
-ghost use Rattle.panel.specs.Points.{pointsOf};
+ghost use Rattle.panel.specs.Spots.{spot_numbers};
+ghost use Rattle.panel.specs.Points.{points_of};
 ghost use Rattle.wcs_refine.specs.Keeping.{Matchable, Fits, PointsAt, AssociatedTo};
 ghost use Rattle.wcs_refine.specs.Comparing.{FoundTo};
 
@@ -204,9 +204,9 @@ pub(crate) fn associate_spots(
     distances: &mut [f64],
     indices: &mut [usize],
 ) -> Step
-    requires { Matchable k room q (length spots.now / spotNumbers) numbers.old floats.old distances.old
+    requires { Matchable k room q (length spots.now / spot_numbers) numbers.old floats.old distances.old
         indices.old × Fits k room held × (k.count ≤ room) }
-    ensures { AssociatedTo k room (pointsOf spots.now k.limit) held r q numbers.old
+    ensures { AssociatedTo k room (points_of spots.now k.limit) held r q numbers.old
         floats.old numbers.new result }
 {
     let within = smaller(spots.len() / SPOT_NUMBERS, k.limit);

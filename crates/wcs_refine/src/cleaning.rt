@@ -1,11 +1,11 @@
 // The closing clips: at most three, each with one refit.
 ghost use Rattle.std.specs.Prelude.{◌≡◌, ◌*◌, ◌/◌, ◌≤◌, length};
-ghost use Rattle.fit.specs.Normal.{lsFitOnce};
-ghost use Rattle.fit.specs.Rows.{rows, viewOf};
+ghost use Rattle.fit.specs.Normal.{ls_fit_once};
+ghost use Rattle.fit.specs.Rows.{rows, view_of};
 ghost use Rattle.residuals.specs.Residual.{clipped};
 ghost use Rattle.fit.specs.declared.Pose.{Pose};
 ghost use Rattle.wcs_refine.specs.Closing.{Closed, refitted};
-ghost use Rattle.wcs_refine.specs.Cleaning.{closingClip, follows, CleanedTo};
+ghost use Rattle.wcs_refine.specs.Cleaning.{closing_clip, follows, CleanedTo};
 
 use crate::clipping::{Stats, compute_stats};
 use fit::{Pose, ls_fit_once};
@@ -37,7 +37,7 @@ pub(crate) struct Cleaned {
 fn refit(matches: &[usize], directions: &[f32], spots: &[f64], pose: Pose, cut: f64) -> Refitted
     ensures { (after : Pose → Closed) → follows result after
         ≡ refitted pose
-        (lsFitOnce (viewOf pose cut) (rows spots.now directions.now matches.now))
+        (ls_fit_once (view_of pose cut) (rows spots.now directions.now matches.now))
         after }
 {
     let s = ls_fit_once(matches, directions, spots, pose, cut);
@@ -59,7 +59,7 @@ fn clip_once(
     cut: f64,
 ) -> Clip
     requires { 2 * (length matches.old / 2) ≤ length floats.old }
-    ensures { clipped result matches.new ≡ closingClip cut spots.now directions.now pose
+    ensures { clipped result matches.new ≡ closing_clip cut spots.now directions.now pose
         matches.old }
 {
     let n = matches.len() / 2;

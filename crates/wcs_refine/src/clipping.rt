@@ -1,6 +1,6 @@
 // The statistics of the residuals, and the clip of a round.
 ghost use Rattle.std.specs.Prelude.{◌≡◌, ◌*◌, ◌%◌, ◌≤◌, length, take};
-ghost use Rattle.residuals.specs.Residual.{inFront};
+ghost use Rattle.residuals.specs.Residual.{in_front};
 ghost use Rattle.wcs_refine.specs.Cleaning.{Statted, ClippedTo};
 
 use residuals::{Clip, mad_clip_matches, residual_median_sigma};
@@ -15,12 +15,12 @@ pub(crate) enum Stats {
     Missing,
 }
 
-// The statistics of the first n numbers, of those in front of the plane; the list has as many places again, as scratch.
-pub(crate) fn compute_stats(floats: &mut [f64], n: usize, in_front: usize) -> Stats
-    requires { (2 * n ≤ length floats.old) × (in_front ≡ length (inFront (take n floats.old))) }
+// The statistics of the first n numbers, of those in front of the plane, which are so many; the list has as many places again, as scratch.
+pub(crate) fn compute_stats(floats: &mut [f64], n: usize, seen: usize) -> Stats
+    requires { (2 * n ≤ length floats.old) × (seen ≡ length (in_front (take n floats.old))) }
     ensures { Statted floats.old floats.new n result }
 {
-    if in_front < FEWEST_RESIDUALS {
+    if seen < FEWEST_RESIDUALS {
         return Stats::Missing;
     }
     let m = residual_median_sigma(floats, n);

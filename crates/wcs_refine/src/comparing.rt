@@ -1,6 +1,6 @@
 // Whether new matches are the present ones, in whatever order. A table with a place for each spot spares sorting them.
 ghost use Rattle.std.specs.Prelude.{◌≡◌, ◌+◌, ◌*◌, ◌≤◌, length, if◌then◌else◌, slice_set};
-ghost use Rattle.wcs_refine.specs.Comparing.{linkOf, tells, Few, Laid, Comparable, Compared};
+ghost use Rattle.wcs_refine.specs.Comparing.{link_of, tells, Few, Laid, Comparable, Compared};
 
 // Whether the table of n places from `base` on has a number for the spot, and the match of that number has the direction: then the number goes.
 // The t matches that it numbers, from 1 on, stand from place `start` on.
@@ -14,7 +14,7 @@ fn strike(
     direction: usize,
 ) -> bool
     requires { (base + n ≤ start) × (start + 2 * t ≤ length numbers.old) × Few base n t numbers.old }
-    ensures { (result ≡ tells base n start numbers.old numbers.old (linkOf spot direction))
+    ensures { (result ≡ tells base n start numbers.old numbers.old (link_of spot direction))
         × (numbers.new ≡ (if result then slice_set numbers.old (base + spot) 0 else numbers.old)) }
 {
     if n <= spot {

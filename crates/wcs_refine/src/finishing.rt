@@ -1,8 +1,8 @@
 // How the run begins, and what follows it: the closing clips, the report, and the matches in the result list.
 ghost use Rattle.std.specs.Prelude.{◌≡◌, ◌*◌, ◌%◌, ◌≤◌, length, take};
-ghost use Rattle.entry.specs.Entry.{fixedOf};
+ghost use Rattle.entry.specs.Entry.{fixed_of};
 ghost use Rattle.lists.specs.Fronted.{fronted};
-ghost use Rattle.wcs_refine.specs.Closing.{mostClips, cleaned};
+ghost use Rattle.wcs_refine.specs.Closing.{most_clips, cleaned};
 ghost use Rattle.wcs_refine.specs.Ending.{Begun, concluded, Answered};
 
 use crate::WcsRefineResult;
@@ -64,8 +64,8 @@ pub(crate) fn finish(
     requires { (2 * ran.held.used ≤ length numbers.old) × (2 * ran.held.used ≤ length floats.old)
         × (2 * ran.held.used ≤ length result_list.old) }
     ensures { Answered
-        (concluded (fixedOf k) spots.now directions.now
-        (cleaned (fixedOf k) spots.now directions.now mostClips ran.held.pose
+        (concluded (fixed_of k) spots.now directions.now
+        (cleaned (fixed_of k) spots.now directions.now most_clips ran.held.pose
         (take (2 * ran.held.used) numbers.old))
         ran.rounds ran.passes ran.queries ran.comparisons)
         result_list.old result_list.new result }

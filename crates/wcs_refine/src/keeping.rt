@@ -1,6 +1,6 @@
 // What a round starts from and leaves, by value; its lists stand in the working list of whole numbers (specs/Keeping.antt).
 ghost use Rattle.std.specs.Prelude.{◌≡◌};
-ghost use Rattle.wcs_refine.specs.Keeping.{withUsed};
+ghost use Rattle.wcs_refine.specs.Keeping.{with_used};
 
 use query::Held;
 
@@ -14,7 +14,7 @@ pub(crate) enum Verdict {
 
 // The same state with another count of matches.
 pub(crate) fn with_used(h: Held, used: usize) -> Held
-    ensures { result ≡ withUsed h used }
+    ensures { result ≡ with_used h used }
 {
     let pose = h.pose;
     let boresight = h.boresight;

@@ -1,7 +1,7 @@
 // The matcher's matches by their directions.
 ghost use Rattle.std.specs.Prelude.{◌≡◌, ◌+◌, ◌*◌, ◌≤◌, ◌⊎◌, ◌++◌, length, take, drop, slice_index};
 ghost use Rattle.std.proofs.Math.Seq.{slice};
-ghost use Rattle.wcs_refine.specs.Listing.{renamedBy};
+ghost use Rattle.wcs_refine.specs.Listing.{renamed_by};
 
 // What stands at a place of the part of `count` numbers from `ids` on; 0 past its end.
 fn id_at(numbers: &[usize], ids: usize, count: usize, place: usize) -> usize
@@ -28,7 +28,7 @@ pub(crate) fn renamed_into(
         × (to + 2 * t ≤ length numbers.old) × ((ids + count ≤ to) ⊎ (to + 2 * t ≤ ids))
         × ((from + 2 * t ≤ to) ⊎ (to + 2 * t ≤ from)) }
     ensures { numbers.new ≡ take to numbers.old
-        ++ renamedBy (slice ids (ids + count) numbers.old) (slice from (from + 2 * t) numbers.old)
+        ++ renamed_by (slice ids (ids + count) numbers.old) (slice from (from + 2 * t) numbers.old)
         ++ drop (to + 2 * t) numbers.old }
 {
     let mut i: usize = 0;

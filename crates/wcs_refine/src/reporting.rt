@@ -4,12 +4,12 @@ ghost use Rattle.std.specs.Float.{binary64};
 ghost use Rattle.std.specs.Float.Ieee.{of_int};
 ghost use Rattle.rounding.specs.Arith.{◌⊘◌, zero64};
 ghost use Rattle.rounding.specs.Root.{root};
-ghost use Rattle.fit.specs.Rows.{rows, viewOf};
-ghost use Rattle.residuals.specs.Residual.{inFront};
-ghost use Rattle.fit.specs.Normal.{normalMatrix};
+ghost use Rattle.fit.specs.Rows.{rows, view_of};
+ghost use Rattle.residuals.specs.Residual.{in_front};
+ghost use Rattle.fit.specs.Normal.{normal_matrix};
 ghost use Rattle.entry.specs.Fixed.{Fixed};
-ghost use Rattle.wcs_refine.specs.Closing.{sumSquares, reported};
-ghost use Rattle.wcs_refine.specs.Cleaning.{covarianceOf, reportOf};
+ghost use Rattle.wcs_refine.specs.Closing.{sum_squares, reported};
+ghost use Rattle.wcs_refine.specs.Cleaning.{covariance_of, report_of};
 
 use fit::{Pose, normal_matrix};
 use project::cd_from_theta;
@@ -30,7 +30,7 @@ pub(crate) struct Numbers {
 
 // The sum of the squares of the residuals in front of the plane, from the left.
 fn sum_squares(residuals: &[f64]) -> f64
-    ensures { result ≡ sumSquares (inFront residuals.now) zero64 }
+    ensures { result ≡ sum_squares (in_front residuals.now) zero64 }
 {
     let mut s = 0.0;
     let mut i: usize = 0;
@@ -64,8 +64,8 @@ fn covariance(
     sum: f64,
 ) -> [[f64; 3]; 3]
     ensures { result
-        ≡ covarianceOf
-        (normalMatrix (viewOf pose cut) (rows spots.now directions.now matches.now))
+        ≡ covariance_of
+        (normal_matrix (view_of pose cut) (rows spots.now directions.now matches.now))
         sum }
 {
     let m = normal_matrix(matches, directions, spots, pose, cut);
@@ -89,7 +89,7 @@ pub(crate) fn report(
 ) -> Numbers
     requires { length matches.now / 2 ≤ length floats.old }
     ensures { (k : Fixed) → k.cut ≡ cut → k.scale ≡ scale → k.mirror ≡ mirror
-        → reportOf result pose matches.now
+        → report_of result pose matches.now
         ≡ reported k pose matches.now
         (rows spots.now directions.now matches.now) }
 {

@@ -1,10 +1,10 @@
 // The rounds: each fits, clips and searches.
 ghost use Rattle.std.specs.Prelude.{◌≡◌, ◌*◌, ◌/◌, ◌%◌, ◌≤◌, length};
-ghost use Rattle.entry.specs.Entry.{fixedOf};
-ghost use Rattle.wcs_refine.specs.Associate.{adaptivePx};
-ghost use Rattle.wcs_refine.specs.Cleaning.{statsOf};
+ghost use Rattle.entry.specs.Entry.{fixed_of};
+ghost use Rattle.wcs_refine.specs.Associate.{adaptive_px};
+ghost use Rattle.wcs_refine.specs.Cleaning.{stats_of};
 ghost use Rattle.wcs_refine.specs.Keeping.{Ready, Fits, RoundTo, RanTo};
-ghost use Rattle.wcs_refine.specs.Stepping.{posed, stopped, refusalOf, TrimmedTo, RestTo};
+ghost use Rattle.wcs_refine.specs.Stepping.{posed, stopped, refusal_of, TrimmedTo, RestTo};
 
 use crate::clipping::{Stats, clip_round, compute_stats};
 use crate::keeping::{Verdict, with_used};
@@ -54,7 +54,7 @@ pub(crate) struct Ran {
 
 // The matcher's radius; the call's own where there are no statistics.
 fn adaptive_px(k: Settings, s: Stats) -> f64
-    ensures { result ≡ adaptivePx (fixedOf k) (statsOf s) }
+    ensures { result ≡ adaptive_px (fixed_of k) (stats_of s) }
 {
     let most = radius_px(k);
     let Stats::Of(_, sigma) = s else {
@@ -92,7 +92,7 @@ fn stops(v: Verdict) -> bool
 
 // The number of a refusal, else 0.
 fn refusal_of(v: Verdict) -> usize
-    ensures { result ≡ refusalOf v }
+    ensures { result ≡ refusal_of v }
 {
     match v {
         Verdict::GoOn => 0,

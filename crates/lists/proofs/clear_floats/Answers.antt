@@ -1,7 +1,7 @@
 use Rattle.std.proofs.Common.{rules}
 use lib.Ieee.{binary64, of_bits}
 use Rattle.lists.proofs.Fronts.{fill_step}
-use Rattle.lists.proofs.Clearing.{all-cleared}
+use Rattle.lists.proofs.Clearing.{all_cleared}
 use Rattle.lists.proofs.clear_floats.Goals as goal
 
 pub loop-i-preserved : goal.loop-i-preserved
@@ -9,4 +9,4 @@ loop-i-preserved c = (search rules, search rules, fill_step _ _ _ c.loop-i.invar
 
 pub returns : goal.returns
 returns c =
-    all-cleared (of_bits binary64 0) c.args.n c.smaller-m.result c.loop-i.i c.args.s.now c.loop-i.s c.smaller-m.ensures c.loop-i.invariant.1 c.loop-i-test.false c.loop-i.invariant.2
+    all_cleared (of_bits binary64 0) c.args.n c.smaller-m.result c.loop-i.i c.args.s.now c.loop-i.s c.smaller-m.ensures c.loop-i.invariant.1 c.loop-i-test.false c.loop-i.invariant.2

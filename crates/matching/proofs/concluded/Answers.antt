@@ -3,7 +3,7 @@ use Prim.Native.Nat.{◌*◌}
 use native.Mathlib.Omega.{arith}
 use borrow.Author.Tests.{lt-ltb, le-ltb}
 use Rattle.rounding.specs.Arith.{zero64}
-use Rattle.lists.proofs.Clearing.{cleared-within}
+use Rattle.lists.proofs.Clearing.{cleared_within}
 use Rattle.matching.specs.Layout.{concluded}
 use Rattle.matching.proofs.concluded.Goals as goal
 
@@ -15,9 +15,9 @@ returns-then-cap-m c =
       c.unordered.ensures.0,
       c.unordered.ensures.1,
       c.clear_numbers.ensures,
-      cleared-within 0 (2 * a.cap) a.indices.now (omega (arith, c.requires.1)),
+      cleared_within 0 (2 * a.cap) a.indices.now (omega (arith, c.requires.1)),
       c.clear_floats.ensures,
-      cleared-within zero64 a.cap a.distances.now (omega (arith, c.requires.0)),
+      cleared_within zero64 a.cap a.distances.now (omega (arith, c.requires.0)),
       lt-ltb a.cap a.m (omega (arith, c.if-cap-m.true)),
     )
 

@@ -3,7 +3,7 @@ use mathlib.Core.Path.{refl}
 use mathlib.Core.Logic.{inl}
 use native.Mathlib.Omega.{arith}
 use Rattle.matching.specs.Layout.{outcome}
-use Rattle.matching.proofs.Whole.{in-turn, too_short, given, answered}
+use Rattle.matching.proofs.Whole.{in_turn, too_short, given, answered}
 use Rattle.matching.proofs.greedy_unique_matches.Goals as goal
 
 pub returns-then-work-np : goal.returns-then-work-np
@@ -22,7 +22,7 @@ concluded-requires c =
     let a = c.args in
     let d' = c.collect-m.new.distances in
     let ix' = c.collect-m.new.indices in
-    let did = in-turn a.points.now a.max_points a.predicted.now a.radius_sq a.distances.now a.indices.now
+    let did = in_turn a.points.now a.max_points a.predicted.now a.radius_sq a.distances.now a.indices.now
     s1.result c.smaller-cap.result s1.ensures c.smaller-cap.ensures d' ix' c.collect-m.result c.collect-m.ensures in (
       omega (arith, c.smaller-cap.ensures, c.collect-m.auto.distances),
       omega (arith, c.smaller-cap.ensures, c.collect-m.auto.indices),
@@ -39,7 +39,7 @@ returns c =
     let a = c.args in
     let d' = c.collect-m.new.distances in
     let ix' = c.collect-m.new.indices in
-    let did = in-turn a.points.now a.max_points a.predicted.now a.radius_sq a.distances.now a.indices.now
+    let did = in_turn a.points.now a.max_points a.predicted.now a.radius_sq a.distances.now a.indices.now
     s1.result c.smaller-cap.result s1.ensures c.smaller-cap.ensures d' ix' c.collect-m.result c.collect-m.ensures in
     answered a.points.now a.max_points a.predicted.now a.radius_sq a.distances.now a.indices.now
     s1.result c.smaller-cap.result s1.ensures c.smaller-cap.ensures c.collect-m.result 0 d' ix' did

@@ -2,7 +2,7 @@
 use mathlib.Core.Path.{◌≡◌, ap}
 use lib.Ieee.{Float}
 use Rattle.rounding.specs.Arith.{◌⊕◌}
-use Rattle.project.specs.Project.{inverseTanProject}
+use Rattle.project.specs.Project.{inverse_tan_project}
 use Rattle.project.specs.declared.Sky.{Sky}
 use Rattle.fit.specs.declared.Pose.{Pose}
 use Rattle.passes.specs.Fit.{moved}
@@ -10,12 +10,12 @@ use Rattle.passes.proofs.moved.Goals as goal
 
 -- The pose with theta turned and the boresight at s.
 abbrev turned : Pose → Float → Sky → Pose
-turned p dTheta s = record { theta = p.theta ⊕ dTheta; ra = s.ra; dec = s.dec; scale = p.scale }
+turned p d_theta s = record { theta = p.theta ⊕ d_theta; ra = s.ra; dec = s.dec; scale = p.scale }
 
-moved_to : (p : Pose) (dTheta dXi dEta : Float) {s : Sky} → s ≡ inverseTanProject dXi dEta p.ra p.dec →
-    turned p dTheta s ≡ moved p dTheta dXi dEta
+moved_to : (p : Pose) (d_theta d_xi d_eta : Float) {s : Sky} → s ≡ inverse_tan_project d_xi d_eta p.ra p.dec →
+    turned p d_theta s ≡ moved p d_theta d_xi d_eta
 unfolding moved
-moved_to p dTheta dXi dEta e = ap (turned p dTheta) e
+moved_to p d_theta d_xi d_eta e = ap (turned p d_theta) e
 
 pub returns : goal.returns
 returns c =

@@ -1,29 +1,29 @@
 -- Refused, the lists are as they came; else each takes its numbers at its front.
-use Rattle.record.proofs.IntakeSteps.{read-refused, few-spots, few-matches, few-directions, read_whole}
+use Rattle.record.proofs.IntakeSteps.{read_refused, few_spots, few_matches, few_directions, read_whole}
 use Rattle.record.proofs.read_record.Goals as goal
 
 pub returns-then-f-ne0 : goal.returns-then-f-ne0
 returns-then-f-ne0 c =
     let f = c.look_over-f in
-    read-refused c.args.bytes.now f.result f.ensures c.args.spots.now c.args.matches.now c.args.directions.now c.refused.result c.if-f-ne0.true c.refused.ensures
+    read_refused c.args.bytes.now f.result f.ensures c.args.spots.now c.args.matches.now c.args.directions.now c.refused.result c.if-f-ne0.true c.refused.ensures
 
 pub returns-then-spots-n : goal.returns-then-spots-n
 returns-then-spots-n c =
     let f = c.look_over-f in
     let r = c.refused-then-spots-n in
-    few-spots c.args.bytes.now f.result f.ensures c.args.spots.now c.args.matches.now c.args.directions.now r.result c.if-f-ne0.false r.ensures c.if-spots-n.true
+    few_spots c.args.bytes.now f.result f.ensures c.args.spots.now c.args.matches.now c.args.directions.now r.result c.if-f-ne0.false r.ensures c.if-spots-n.true
 
 pub returns-then-matches-m : goal.returns-then-matches-m
 returns-then-matches-m c =
     let f = c.look_over-f in
     let r = c.refused-then-matches-m in
-    few-matches c.args.bytes.now f.result f.ensures c.args.spots.now c.args.matches.now c.args.directions.now r.result c.if-f-ne0.false r.ensures c.if-matches-m.true
+    few_matches c.args.bytes.now f.result f.ensures c.args.spots.now c.args.matches.now c.args.directions.now r.result c.if-f-ne0.false r.ensures c.if-matches-m.true
 
 pub returns-then-directions-d : goal.returns-then-directions-d
 returns-then-directions-d c =
     let f = c.look_over-f in
     let r = c.refused-then-directions-d in
-    few-directions c.args.bytes.now f.result f.ensures c.args.spots.now c.args.matches.now c.args.directions.now r.result c.if-f-ne0.false r.ensures c.if-directions-d.true
+    few_directions c.args.bytes.now f.result f.ensures c.args.spots.now c.args.matches.now c.args.directions.now r.result c.if-f-ne0.false r.ensures c.if-directions-d.true
 
 pub returns : goal.returns
 returns c =

@@ -1,6 +1,6 @@
 -- `east_at` meets its contract. Assumes nothing.
-use Rattle.entry.proofs.StartPoses.{east-of}
+use Rattle.entry.proofs.StartPoses.{east_of}
 use Rattle.entry.proofs.head.east_at.Goals as goal
 
 pub returns : goal.returns
-returns c = east-of c.args.ra c.sin-s.ensures c.cos-c.ensures
+returns c = east_of c.args.ra c.sin-s.ensures c.cos-c.ensures

@@ -6,9 +6,9 @@ use native.Mathlib.Omega.{arith}
 use lib.Ieee.{binary64}
 use Rattle.rounding.specs.Arith.{zero64}
 use Rattle.rounding.specs.Root.{root}
-use Rattle.rounding.proofs.RootMax.{plain-zero, zero-root}
+use Rattle.rounding.proofs.RootMax.{plain_zero, zero_root}
 use Rattle.entry.specs.Fixed.{farthest}
-use Rattle.entry.proofs.StartPoses.{far-next, far-done}
+use Rattle.entry.proofs.StartPoses.{far_next, far_done}
 use borrow.Author.Rules.{rules}
 use Rattle.entry.proofs.head.farthest_of.Goals as goal
 
@@ -17,14 +17,14 @@ loop-i-init c =
     let n = c.args.n in
     let s = c.args.spots.now in
     let e : n - 0 ≡ n = omega arith in
-    (search rules, plain-zero binary64, ap (λ (k : ℕ). farthest s 0 k (root binary64 zero64)) e ∙ ap (farthest s 0 n) (zero-root binary64))
+    (search rules, plain_zero binary64, ap (λ (k : ℕ). farthest s 0 k (root binary64 zero64)) e ∙ ap (farthest s 0 n) (zero_root binary64))
 
 pub loop-i-preserved : goal.loop-i-preserved
 loop-i-preserved c =
     let s = c.args.spots.now in
     let n = c.args.n in
     let l = c.loop-i in
-    let next = far-next s n l.i l.square l.invariant.1 l.invariant.2 c.loop-i-test.true c.spot_at-s.ensures c.max-square.ensures in
+    let next = far_next s n l.i l.square l.invariant.1 l.invariant.2 c.loop-i-test.true c.spot_at-s.ensures c.max-square.ensures in
     (search rules, next.0, next.1)
 
 pub returns : goal.returns
@@ -32,4 +32,4 @@ returns c =
     let s = c.args.spots.now in
     let n = c.args.n in
     let l = c.loop-i in
-    far-done s n l.i l.square l.invariant.1 l.invariant.2 c.loop-i-test.false c.sqrt64.ensures
+    far_done s n l.i l.square l.invariant.1 l.invariant.2 c.loop-i-test.false c.sqrt64.ensures

@@ -1,7 +1,7 @@
 -- `settings_of` meets its contract. Assumes nothing.
-use Rattle.entry.specs.Fixed.{fixedFrom}
+use Rattle.entry.specs.Fixed.{fixed_from}
 use Rattle.entry.proofs.head.settings_of.Goals as goal
 
 pub returns : goal.returns
-unfolding fixedFrom
+unfolding fixed_from
 returns c = rw (c.farthest_of-far.ensures, c.smaller-capacity.ensures, c.widen-wide.ensures)

@@ -1,7 +1,7 @@
 -- `components_fit` meets its contract. The invariant: the whole list is lawful where the rest is. Assumes nothing.
 use mathlib.Core.Path.{sym, refl}
-use Rattle.entry.specs.Check.{lawfulComponent}
-use Rattle.entry.proofs.ListTests.{failed, passed, every-next, every-stop, every-done}
+use Rattle.entry.specs.Check.{lawful_component}
+use Rattle.entry.proofs.ListTests.{failed, passed, every_next, every_stop, every_done}
 use borrow.Author.Rules.{rules}
 use Rattle.entry.proofs.refusals.components_fit.Goals as goal
 
@@ -11,14 +11,14 @@ loop-i-init c = (search rules, refl)
 pub returns-then-not-is_lawful : goal.returns-then-not-is_lawful
 returns-then-not-is_lawful c =
     let l = c.loop-i in
-    sym (every-stop lawfulComponent c.args.directions.now l.i l.invariant.1 c.loop-i-test.true (failed c.is_lawful.ensures c.if-not-is_lawful.true))
+    sym (every_stop lawful_component c.args.directions.now l.i l.invariant.1 c.loop-i-test.true (failed c.is_lawful.ensures c.if-not-is_lawful.true))
 
 pub loop-i-preserved : goal.loop-i-preserved
 loop-i-preserved c =
     let l = c.loop-i in
-    (search rules, every-next lawfulComponent c.args.directions.now l.i l.invariant.1 c.loop-i-test.true (passed c.is_lawful.ensures c.if-not-is_lawful.false))
+    (search rules, every_next lawful_component c.args.directions.now l.i l.invariant.1 c.loop-i-test.true (passed c.is_lawful.ensures c.if-not-is_lawful.false))
 
 pub returns : goal.returns
 returns c =
     let l = c.loop-i in
-    sym (every-done lawfulComponent c.args.directions.now l.i l.invariant.1 c.loop-i-test.false)
+    sym (every_done lawful_component c.args.directions.now l.i l.invariant.1 c.loop-i-test.false)

@@ -1,4 +1,4 @@
--- `orElse` meets its contract. Assumes nothing.
+-- `or_else` meets its contract. Assumes nothing.
 use mathlib.Core.Path.{refl}
 use Rattle.entry.proofs.Stages.{stops, goes}
 use Rattle.entry.proofs.refusals.or_else.Goals as goal

@@ -9,31 +9,31 @@ use Rattle.matching.specs.Layout.{taking, offered}
 use Rattle.matching.proofs.assign.offer.Goals as goal
 
 module _ (np marked t : ℕ) (w : List ℕ) (a b : ℕ) where
-  both-free : get_or w a 0 ≡ 0 → get_or w (np + b) 0 ≡ 0
+  both_free : get_or w a 0 ≡ 0 → get_or w (np + b) 0 ≡ 0
       → taking (t + 1) (set (set (set (set w a 1) (np + b) 1) (marked + 2 * t) a) (marked + 2 * t + 1) b) ≡ offered np marked (taking t w) a b
   unfolding offered
-  both-free p q = rw (eq-eqb (get_or w a 0) 0 p, eq-eqb (get_or w (np + b) 0) 0 q)
+  both_free p q = rw (eq-eqb (get_or w a 0) 0 p, eq-eqb (get_or w (np + b) 0) 0 q)
 
-  first-marked : (get_or w a 0 ≡ 0 → ⊥) → taking t w ≡ offered np marked (taking t w) a b
+  first_marked : (get_or w a 0 ≡ 0 → ⊥) → taking t w ≡ offered np marked (taking t w) a b
   unfolding offered
-  first-marked p = rw (ne_eqb (get_or w a 0) 0 p)
+  first_marked p = rw (ne_eqb (get_or w a 0) 0 p)
 
-  second-marked : get_or w a 0 ≡ 0 → (get_or w (np + b) 0 ≡ 0 → ⊥) → taking t w ≡ offered np marked (taking t w) a b
+  second_marked : get_or w a 0 ≡ 0 → (get_or w (np + b) 0 ≡ 0 → ⊥) → taking t w ≡ offered np marked (taking t w) a b
   unfolding offered
-  second-marked p q = rw (eq-eqb (get_or w a 0) 0 p, ne_eqb (get_or w (np + b) 0) 0 q)
+  second_marked p q = rw (eq-eqb (get_or w a 0) 0 p, ne_eqb (get_or w (np + b) 0) 0 q)
 
 pub returns-then-number_at-eq0-2 : goal.returns-then-number_at-eq0-2
 returns-then-number_at-eq0-2 c = (
   omega arith,
   rw (c.put_number-then-number_at-eq0-2-3.ensures, c.put_number-then-number_at-eq0-2-2.ensures, c.put_number-then-number_at-eq0-2.ensures, c.put_number.ensures)
-      (both-free c.args.np c.args.marked c.args.t c.args.work.now c.args.spot c.args.prediction
+      (both_free c.args.np c.args.marked c.args.t c.args.work.now c.args.spot c.args.prediction
       (sym c.number_at.ensures ∙ c.if-number_at-eq0.true) (sym c.number_at-then-number_at-eq0.ensures ∙ c.if-number_at-eq0-2.true)),
 )
 
 pub returns-else-number_at-eq0-2 : goal.returns-else-number_at-eq0-2
 returns-else-number_at-eq0-2 c = (
   omega arith,
-  second-marked c.args.np c.args.marked c.args.t c.args.work.now c.args.spot c.args.prediction
+  second_marked c.args.np c.args.marked c.args.t c.args.work.now c.args.spot c.args.prediction
       (sym c.number_at.ensures ∙ c.if-number_at-eq0.true)
       (λ q. c.if-number_at-eq0-2.false (c.number_at-then-number_at-eq0.ensures ∙ q)),
 )
@@ -41,6 +41,6 @@ returns-else-number_at-eq0-2 c = (
 pub returns-else-number_at-eq0 : goal.returns-else-number_at-eq0
 returns-else-number_at-eq0 c = (
   omega arith,
-  first-marked c.args.np c.args.marked c.args.t c.args.work.now c.args.spot c.args.prediction
+  first_marked c.args.np c.args.marked c.args.t c.args.work.now c.args.spot c.args.prediction
       (λ q. c.if-number_at-eq0.false (c.number_at.ensures ∙ q)),
 )

@@ -1,6 +1,6 @@
 use Rattle.std.proofs.Common.{rules, refl}
 use Rattle.panel.specs.Points.{coordinates}
-use Rattle.panel.proofs.Laying.{lay-next}
+use Rattle.panel.proofs.Laying.{lay_next}
 use Rattle.panel.proofs.points.lay_points.Goals as goal
 
 pub loop-i-init : goal.loop-i-init
@@ -9,4 +9,4 @@ loop-i-init c = (search rules, refl, refl)
 
 pub loop-i-preserved : goal.loop-i-preserved
 loop-i-preserved c =
-    (search rules, search rules, lay-next c.args.spots.now c.args.points.now c.loop-i.i c.loop-i.invariant.2 (search rules) c.spot_at-s.ensures)
+    (search rules, search rules, lay_next c.args.spots.now c.args.points.now c.loop-i.i c.loop-i.invariant.2 (search rules) c.spot_at-s.ensures)

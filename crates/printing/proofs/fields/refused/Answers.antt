@@ -1,6 +1,6 @@
-use Rattle.printing.specs.Text.{refusedText}
+use Rattle.printing.specs.Text.{refused_text}
 use Rattle.printing.proofs.fields.refused.Goals as goal
 
 pub returns : goal.returns
-unfolding refusedText
+unfolding refused_text
 returns c = c.count_line.ensures

@@ -2,34 +2,34 @@
 use mathlib.Core.Path.{◌≡◌, refl, ap, ◌∙◌}
 use lib.Ieee.{Float, neg, of_bits}
 use Rattle.rounding.specs.Arith.{◌⊕◌, ◌⊖◌, ◌⊗◌, ◌⊘◌, one64}
-use Rattle.rounding.specs.Methods.{clampF}
-use Rattle.angles.specs.SinCos.{sinCos, sin, cos}
+use Rattle.rounding.specs.Methods.{clamp_f}
+use Rattle.angles.specs.SinCos.{sin_cos, sin, cos}
 use Rattle.angles.specs.Inverse.{asin, atan2}
 use Rattle.angles.specs.declared.direct.SinCos.{SinCos}
-use Rattle.solve.specs.Constants.{minusOne}
-use Rattle.project.specs.Project.{awayFrom}
+use Rattle.solve.specs.Constants.{minus_one}
+use Rattle.project.specs.Project.{away_from}
 use Rattle.project.specs.declared.Sky.{Sky}
 use Rattle.project.proofs.Trig.{sine, cosine}
 use Rattle.project.proofs.project.away_from.Goals as goal
 
-minus_one : neg one64 ≡ minusOne
+minus_one_lem : neg one64 ≡ minus_one
 unfolding neg of_bits
-minus_one = refl
+minus_one_lem = refl
 
 same : {a a' d d' : Float} → a ≡ a' → d ≡ d' → ◌≡◌ {A = Sky} (record { ra = a; dec = d }) (record { ra = a'; dec = d' })
 same p q = cc
 
-module _ (xi eta ra0 dec0 rho c : Float) {a d : SinCos} (e : a ≡ sinCos c) (f : d ≡ sinCos dec0) where
+module _ (xi eta ra0 dec0 rho c : Float) {a d : SinCos} (e : a ≡ sin_cos c) (f : d ≡ sin_cos dec0) where
   turn : atan2 (xi ⊗ a.sin) (rho ⊗ d.cos ⊗ a.cos ⊖ eta ⊗ d.sin ⊗ a.sin) ≡ atan2 (xi ⊗ sin c) (rho ⊗ cos dec0 ⊗ cos c ⊖ eta ⊗ sin dec0 ⊗ sin c)
   turn = cc (sine c e, cosine c e, sine dec0 f, cosine dec0 f)
 
-  clamped : clampF (a.cos ⊗ d.sin ⊕ eta ⊗ a.sin ⊗ d.cos ⊘ rho) (neg one64) one64 ≡ clampF (cos c ⊗ sin dec0 ⊕ eta ⊗ sin c ⊗ cos dec0 ⊘ rho) minusOne one64
-  clamped = cc (minus_one, sine c e, cosine c e, sine dec0 f, cosine dec0 f)
+  clamped : clamp_f (a.cos ⊗ d.sin ⊕ eta ⊗ a.sin ⊗ d.cos ⊘ rho) (neg one64) one64 ≡ clamp_f (cos c ⊗ sin dec0 ⊕ eta ⊗ sin c ⊗ cos dec0 ⊘ rho) minus_one one64
+  clamped = cc (minus_one_lem, sine c e, cosine c e, sine dec0 f, cosine dec0 f)
 
   found : {t s r : Float} → t ≡ atan2 (xi ⊗ a.sin) (rho ⊗ d.cos ⊗ a.cos ⊖ eta ⊗ d.sin ⊗ a.sin) →
-      s ≡ clampF (a.cos ⊗ d.sin ⊕ eta ⊗ a.sin ⊗ d.cos ⊘ rho) (neg one64) one64 → r ≡ asin s →
-      record { ra = ra0 ⊕ t; dec = r } ≡ awayFrom xi eta ra0 dec0 rho c
-  unfolding awayFrom
+      s ≡ clamp_f (a.cos ⊗ d.sin ⊕ eta ⊗ a.sin ⊗ d.cos ⊘ rho) (neg one64) one64 → r ≡ asin s →
+      record { ra = ra0 ⊕ t; dec = r } ≡ away_from xi eta ra0 dec0 rho c
+  unfolding away_from
   found p q r = same (ap (λ (x : Float). ra0 ⊕ x) (p ∙ turn)) (r ∙ ap asin (q ∙ clamped))
 
 pub returns : goal.returns

@@ -9,7 +9,7 @@ use lib.ListN.{length, get_or, set}
 use lib.Seq.{slice, slice_empty, take-length}
 use Rattle.query.specs.Listing.{Fronted, falling, standing}
 use Rattle.query.specs.declared.Fall.{Fall}
-use Rattle.query.proofs.Listed.{Writing, begin, onward, front-push, behind, front-many, front-whole, next-stands, next-off}
+use Rattle.query.proofs.Listed.{Writing, begin, onward, front_push, behind, front_many, front_whole, next_stands, next_off}
 use borrow.Author.Rules.{rules}
 use Rattle.query.proofs.falls.prune_in_place.Goals as goal
 use Rattle.query.proofs.falls.prune_in_place.Goals.{then-f, else-f}
@@ -24,12 +24,12 @@ module _ (f : ℕ → Fall) (n : ℕ) (o m : List ℕ) (k i : ℕ) (low : k ≤ 
   took {q} e b =
       let t : (f (get_or o i 0)).inside ≡ true = ap (λ (j : ℕ). (f j).inside) (sym same) ∙ ap (λ (p : Fall). p.inside) (sym e) ∙ b in
       subst (λ (a : ℕ). Writing 0 (k + 1) (set m k a) o (standing f (slice (i + 1) n o)) (standing f o)) (sym same)
-      (front-push k m o (get_or o i 0) (onward (next-stands f n i o h fits t) w) (omega arith))
+      (front_push k m o (get_or o i 0) (onward (next_stands f n i o h fits t) w) (omega arith))
 
   passed : {q : Fall} → q ≡ f (get_or m i 0) → q.inside ≡ false → Writing 0 k m o (standing f (slice (i + 1) n o)) (standing f o)
   passed {q} e b =
       let t : (f (get_or o i 0)).inside ≡ false = ap (λ (j : ℕ). (f j).inside) (sym same) ∙ ap (λ (p : Fall). p.inside) (sym e) ∙ b in
-      onward (next-off f n i o h fits t) w
+      onward (next_off f n i o h fits t) w
 
 ended : (f : ℕ → Fall) (n : ℕ) (o m : List ℕ) (k i : ℕ) → k ≤ i → i ≤ n → n ≤ i → n ≤ length o → Writing 0 k m o (standing f (slice i n o)) (standing f o)
     → Fronted (standing f o) o m k
@@ -39,7 +39,7 @@ ended f n o m k i low u v fits w₀ =
     let none : standing f (slice i n o) ≡ [] = ap (λ (j : ℕ). standing f (slice j n o)) e ∙ ap (standing f) (slice_empty n o) in
     let w = onward none w₀ in
     let r : k ≤ length m = omega arith in
-    record { count = front-many k m o w r; list = front-whole k m o w r }
+    record { count = front_many k m o w r; list = front_whole k m o w r }
 
 pub loop-i-init : goal.loop-i-init
 loop-i-init c =

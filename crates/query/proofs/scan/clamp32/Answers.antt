@@ -1,15 +1,15 @@
 -- `scan::clamp32` meets its contract. Assumes nothing.
-use Rattle.rounding.specs.Methods.{clampF}
+use Rattle.rounding.specs.Methods.{clamp_f}
 use Rattle.query.proofs.scan.clamp32.Goals as goal
 
 pub returns-then-x-lo : goal.returns-then-x-lo
-unfolding clampF
+unfolding clamp_f
 returns-then-x-lo c = rw c.if-x-lo.true
 
 pub returns-then-hi-x : goal.returns-then-hi-x
-unfolding clampF
+unfolding clamp_f
 returns-then-hi-x c = rw (c.if-x-lo.false, c.if-hi-x.true)
 
 pub returns-else-hi-x : goal.returns-else-hi-x
-unfolding clampF
+unfolding clamp_f
 returns-else-hi-x c = rw (c.if-x-lo.false, c.if-hi-x.false)

@@ -6,11 +6,11 @@ use Prim.Native.Nat.{ℕ, zero, suc, ◌+◌, ◌*◌, ◌-◌, ◌≤◌, ◌<�
 use native.Mathlib.Omega.{arith}
 use lib.Ieee.{Float, le}
 use lib.ListN.{length, set}
-use Rattle.fit.specs.Rows.{directionAt}
+use Rattle.fit.specs.Rows.{direction_at}
 use Rattle.solve.specs.Vector.{at}
 use Rattle.query.specs.Query.{dot32, scanned}
 use Rattle.query.specs.Listing.{Fronted}
-use Rattle.query.proofs.Listed.{Writing, begin, onward, front-push, front-many, front-whole, scan-next, scan-not, scan-none}
+use Rattle.query.proofs.Listed.{Writing, begin, onward, front_push, front_many, front_whole, scan_next, scan_not, scan_none}
 use borrow.Author.Rules.{rules}
 use Rattle.query.proofs.scan.scan_into.Goals as goal
 use Rattle.query.proofs.scan.scan_into.Goals.{then-least-d, else-least-d}
@@ -22,29 +22,29 @@ Stands ds least o n x y z m k j =
     × Writing 0 k m o (scanned ds (x ∷ y ∷ z ∷ []) least j (n - j)) (scanned ds (x ∷ y ∷ z ∷ []) least 0 n)
 
 module _ (ds : List Float) (least : Float) (o : List ℕ) (n : ℕ) (x y z : Float) (m : List ℕ) (k j : ℕ) (inv : Stands ds least o n x y z m k j) where
-  took : j < n → le least (dot32 (x ∷ y ∷ z ∷ []) (directionAt ds j)) ≡ true → Stands ds least o n x y z (set m k j) (k + 1) (j + 1)
+  took : j < n → le least (dot32 (x ∷ y ∷ z ∷ []) (direction_at ds j)) ≡ true → Stands ds least o n x y z (set m k j) (k + 1) (j + 1)
   took h b =
       let w : Writing 0 k m o (j ∷ scanned ds (x ∷ y ∷ z ∷ []) least (j + 1) (n - (j + 1))) (scanned ds (x ∷ y ∷ z ∷ []) least 0 n) =
-      onward (scan-next ds (x ∷ y ∷ z ∷ []) least n j h b) inv.4 in
-      (omega arith, omega arith, inv.2, inv.3, front-push k m o j w (omega (arith, w.long)))
+      onward (scan_next ds (x ∷ y ∷ z ∷ []) least n j h b) inv.4 in
+      (omega arith, omega arith, inv.2, inv.3, front_push k m o j w (omega (arith, w.long)))
 
-  passed : j < n → le least (dot32 (x ∷ y ∷ z ∷ []) (directionAt ds j)) ≡ false → Stands ds least o n x y z m k (j + 1)
-  passed h b = (omega arith, omega arith, inv.2, inv.3, onward (scan-not ds (x ∷ y ∷ z ∷ []) least n j h b) inv.4)
+  passed : j < n → le least (dot32 (x ∷ y ∷ z ∷ []) (direction_at ds j)) ≡ false → Stands ds least o n x y z m k (j + 1)
+  passed h b = (omega arith, omega arith, inv.2, inv.3, onward (scan_not ds (x ∷ y ∷ z ∷ []) least n j h b) inv.4)
 
   ended : n ≤ j → Fronted (scanned ds (x ∷ y ∷ z ∷ []) least 0 n) o m k
   ended h =
-      let w : Writing 0 k m o [] (scanned ds (x ∷ y ∷ z ∷ []) least 0 n) = onward (scan-none ds (x ∷ y ∷ z ∷ []) least n j h) inv.4 in
+      let w : Writing 0 k m o [] (scanned ds (x ∷ y ∷ z ∷ []) least 0 n) = onward (scan_none ds (x ∷ y ∷ z ∷ []) least n j h) inv.4 in
       let r : k ≤ length m = omega (arith, w.long) in
       record {
-        count = front-many k m o w r;
-        list = front-whole k m o w r;
+        count = front_many k m o w r;
+        list = front_whole k m o w r;
       }
 
 -- the definition reads the axis component by component
 by_parts : (ds axis : List Float) (least : Float) (j n : ℕ) → scanned ds (at axis 0 ∷ at axis 1 ∷ at axis 2 ∷ []) least j n ≡ scanned ds axis least j n
 unfolding scanned dot32
 by_parts ds axis least j zero = refl
-by_parts ds axis least j (suc n) = ap (λ (more : List ℕ). cond (le least (dot32 axis (directionAt ds j))) (j ∷ more) more) (by_parts ds axis least (suc j) n)
+by_parts ds axis least j (suc n) = ap (λ (more : List ℕ). cond (le least (dot32 axis (direction_at ds j))) (j ∷ more) more) (by_parts ds axis least (suc j) n)
 
 pub loop-j-init : goal.loop-j-init
 loop-j-init c =
@@ -53,7 +53,7 @@ loop-j-init c =
     (search rules, search rules, omega (arith, c.smaller-n.ensures), omega (arith, c.smaller-n.ensures), rw e (begin 0 _ _))
 
 pub loop-j-preserved : goal.loop-j-preserved
-unfolding dot32 directionAt
+unfolding dot32 direction_at
 loop-j-preserved c =
     let a = c.args in
     let n = c.smaller-n.result in

@@ -1,5 +1,5 @@
 use Rattle.std.proofs.Common.{◌-◌}
-use Rattle.record.specs.Head.{headSize}
+use Rattle.record.specs.Head.{head_size}
 use Rattle.record.proofs.HeadSteps.{Heading}
 use Rattle.record.proofs.heads.read_head.Given as goal
 
@@ -8,4 +8,4 @@ abbrev pub invariant-loop-i : goal.invariant-loop-i
 invariant-loop-i l = Heading l.bytes l.h l.to l.i
 
 abbrev pub decreases-loop-i : goal.decreases-loop-i
-decreases-loop-i l = headSize - l.i
+decreases-loop-i l = head_size - l.i

@@ -1,5 +1,5 @@
 use Rattle.std.proofs.Common.{◌<◌, ◌≤◌, ◌≡◌, arith}
-use Rattle.record.proofs.NumberSteps.{begun, number-ends, number-high, number-needless, number-last, number-on}
+use Rattle.record.proofs.NumberSteps.{begun, number_ends, number_high, number_needless, number_last, number_on}
 use Rattle.record.proofs.numbers.number_to.Goals as goal
 use Rattle.record.proofs.numbers.number_to.Goals.{then-b-eq0+else-at-i, else-b-eq0}
 
@@ -12,14 +12,14 @@ returns-then-left-b c =
     let l = c.loop-i in
     let w = c.wide-b in
     let byte : w.result < 256 = omega (arith, w.ensures, c.type_inv.bytes l.i) in
-    number-high a.bytes.now a.at a.top l.v l.weight l.left l.i l.invariant c.loop-i-test.true w.result w.ensures byte c.if-left-b.true
+    number_high a.bytes.now a.at a.top l.v l.weight l.left l.i l.invariant c.loop-i-test.true w.result w.ensures byte c.if-left-b.true
 
 pub returns-then-at-i : goal.returns-then-at-i
 returns-then-at-i c =
     let a = c.args in
     let l = c.loop-i in
     let w = c.wide-b in
-    number-needless a.bytes.now a.at a.top l.v l.weight l.left l.i l.invariant c.loop-i-test.true w.result w.ensures c.if-b-eq0.true c.if-at-i.true
+    number_needless a.bytes.now a.at a.top l.v l.weight l.left l.i l.invariant c.loop-i-test.true w.result w.ensures c.if-b-eq0.true c.if-at-i.true
 
 pub returns-then-b-lt128 : goal.returns-then-b-lt128
 returns-then-b-lt128 c =
@@ -28,7 +28,7 @@ returns-then-b-lt128 c =
     let w = c.wide-b in
     let first : w.result ≡ 0 → l.i ≤ a.at =
     λ z. elim c.if-b-eq0.branch [ then-b-eq0+else-at-i w ↦ omega arith | else-b-eq0 w ↦ omega arith ] in
-    number-last a.bytes.now a.at a.top l.v l.weight l.left l.i l.invariant c.loop-i-test.true w.result w.ensures c.if-b-lt128.true c.if-left-b.false first
+    number_last a.bytes.now a.at a.top l.v l.weight l.left l.i l.invariant c.loop-i-test.true w.result w.ensures c.if-b-lt128.true c.if-left-b.false first
 
 pub loop-i-preserved : goal.loop-i-preserved
 loop-i-preserved c =
@@ -36,9 +36,9 @@ loop-i-preserved c =
     let l = c.loop-i in
     let w = c.wide-b in
     let byte : w.result < 256 = omega (arith, w.ensures, c.type_inv.bytes l.i) in
-    number-on a.bytes.now a.at a.top l.v l.weight l.left l.i l.invariant c.loop-i-test.true w.result w.ensures c.if-b-lt128.false byte c.if-left-b.false
+    number_on a.bytes.now a.at a.top l.v l.weight l.left l.i l.invariant c.loop-i-test.true w.result w.ensures c.if-b-lt128.false byte c.if-left-b.false
 
 pub returns : goal.returns
 returns c =
     let l = c.loop-i in
-    number-ends c.args.bytes.now c.args.at c.args.top l.v l.weight l.left l.i l.invariant c.loop-i-test.false
+    number_ends c.args.bytes.now c.args.at c.args.top l.v l.weight l.left l.i l.invariant c.loop-i-test.false

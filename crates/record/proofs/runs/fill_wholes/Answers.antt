@@ -1,21 +1,21 @@
 use Rattle.std.proofs.Common.{arith, refl, ℕ, ◌∙◌}
 use mathlib.Core.List.{map-id}
-use Rattle.record.proofs.RunSteps.{filling-first, filled, filling-lies, filling-on}
+use Rattle.record.proofs.RunSteps.{filling_first, filled, filling_lies, filling_on}
 use Rattle.record.proofs.runs.fill_wholes.Goals as goal
 
 pub loop-i-init : goal.loop-i-init
-loop-i-init c = filling-first (λ (x : ℕ). x) 32 c.args.bytes.now c.args.at c.args.list.now
+loop-i-init c = filling_first (λ (x : ℕ). x) 32 c.args.bytes.now c.args.at c.args.list.now
 
 pub known_at-r-requires : goal.known_at-r-requires
 known_at-r-requires c =
     let l = c.loop-i in
-    filling-lies (λ (x : ℕ). x) 32 c.args.bytes.now c.args.at l.to l.i c.args.list.now l.list l.invariant c.loop-i-test.true c.requires.0 c.requires.1 (omega arith)
+    filling_lies (λ (x : ℕ). x) 32 c.args.bytes.now c.args.at l.to l.i c.args.list.now l.list l.invariant c.loop-i-test.true c.requires.0 c.requires.1 (omega arith)
 
 pub loop-i-preserved : goal.loop-i-preserved
 loop-i-preserved c =
     let l = c.loop-i in
     let r = c.known_at-r in
-    filling-on (λ (x : ℕ). x) 32 c.args.bytes.now c.args.at l.to l.i c.args.list.now l.list l.invariant c.loop-i-test.true c.requires.0 c.requires.1 r.result.value r.result.to r.ensures r.result.value refl
+    filling_on (λ (x : ℕ). x) 32 c.args.bytes.now c.args.at l.to l.i c.args.list.now l.list l.invariant c.loop-i-test.true c.requires.0 c.requires.1 r.result.value r.result.to r.ensures r.result.value refl
 
 pub returns : goal.returns
 returns c =

@@ -7,8 +7,8 @@ use Prim.Native.Nat.{ℕ, ◌+◌, ◌*◌, ◌/◌, ◌-◌, ◌≤◌, ◌<◌
 use native.Mathlib.Omega.{arith}
 use lib.Ieee.{Float, nan}
 use lib.ListN.{length, get_or, set, take, drop, length-set}
-use Rattle.residuals.specs.Residual.{keeps, keptFrom}
-use Rattle.residuals.proofs.Kept.{tested, kept_next, kept-not, kept-none, unwritten, pair-front, pair-back, front-done}
+use Rattle.residuals.specs.Residual.{keeps, kept_from}
+use Rattle.residuals.proofs.Kept.{tested, kept_next, kept_not, kept_none, unwritten, pair_front, pair_back, front_done}
 use borrow.Author.Rules.{rules}
 use Rattle.residuals.proofs.clipping.compact.Goals as goal
 use Rattle.residuals.proofs.clipping.compact.Goals.{then-keeps, else-keeps}
@@ -17,7 +17,7 @@ use Rattle.residuals.proofs.clipping.compact.Goals.{then-keeps, else-keeps}
 abbrev Stands : Float → List Float → List ℕ → List ℕ → ℕ → ℕ → Type 0
 Stands t rs o m k i =
     (length m ≡ length o) × (i ≤ length o / 2) × (k ≤ 2 * i) × (drop k m ≡ drop k o)
-    × (take k m ++ keptFrom t rs o i (length o / 2 - i) ≡ keptFrom t rs o 0 (length o / 2))
+    × (take k m ++ kept_from t rs o i (length o / 2 - i) ≡ kept_from t rs o 0 (length o / 2))
 
 -- a turn that keeps the match, and one that does not
 module _ (t : Float) (rs : List Float) (o m : List ℕ) (k i : ℕ) (inv : Stands t rs o m k i) (h : i < length o / 2) where
@@ -30,19 +30,19 @@ module _ (t : Float) (rs : List Float) (o m : List ℕ) (k i : ℕ) (inv : Stand
         simp length-set inv.0,
         omega arith,
         omega arith,
-        pair-back m o k inv.3 (get_or m (2 * i) 0) (get_or m (2 * i + 1) 0),
-        rw (pair-front m o k inv.3 (get_or m (2 * i) 0) (get_or m (2 * i + 1) 0) room, append_assoc, x, y, ← kept_next t rs o (length o / 2) i h e) inv.4,
+        pair_back m o k inv.3 (get_or m (2 * i) 0) (get_or m (2 * i + 1) 0),
+        rw (pair_front m o k inv.3 (get_or m (2 * i) 0) (get_or m (2 * i + 1) 0) room, append_assoc, x, y, ← kept_next t rs o (length o / 2) i h e) inv.4,
       )
 
   passed : keeps t (get_or rs i nan) ≡ false → Stands t rs o m k (i + 1)
-  passed e = (inv.0, omega arith, omega arith, inv.3, rw (← kept-not t rs o (length o / 2) i h e) inv.4)
+  passed e = (inv.0, omega arith, omega arith, inv.3, rw (← kept_not t rs o (length o / 2) i h e) inv.4)
 
 -- after the last one
 done : (t : Float) (rs : List Float) (o m : List ℕ) (k i : ℕ) → Stands t rs o m k i → length o / 2 ≤ i
-    → m ≡ keptFrom t rs o 0 (length o / 2) ++ drop (length (keptFrom t rs o 0 (length o / 2))) o
+    → m ≡ kept_from t rs o 0 (length o / 2) ++ drop (length (kept_from t rs o 0 (length o / 2))) o
 done t rs o m k i inv h =
-    front-done m o k inv.3 (omega arith)
-    (sym (append-nil (take k m)) ∙ ap (λ (z : List ℕ). take k m ++ z) (sym (kept-none t rs o (length o / 2) i h)) ∙ inv.4)
+    front_done m o k inv.3 (omega arith)
+    (sym (append-nil (take k m)) ∙ ap (λ (z : List ℕ). take k m ++ z) (sym (kept_none t rs o (length o / 2) i h)) ∙ inv.4)
 
 pub loop-i-init : goal.loop-i-init
 loop-i-init c =

@@ -3,7 +3,7 @@ use mathlib.Core.Path.{◌≡◌}
 use Prim.Native.Nat.{◌-◌}
 use native.Mathlib.Omega.{arith}
 use borrow.Author.Rules.{rules}
-use Rattle.residuals.proofs.Kept.{tested, count_next, count-not, count-done}
+use Rattle.residuals.proofs.Kept.{tested, count_next, count_not, count_done}
 use Rattle.residuals.proofs.clipping.count_kept.Goals as goal
 use Rattle.residuals.proofs.clipping.count_kept.Goals.{then-keeps, else-keeps}
 
@@ -21,10 +21,10 @@ loop-i-preserved c =
     let rs = a.residuals.now in
     elim c.if-keeps.branch [
       | then-keeps w ↦ rw w.k-is (search rules, omega arith, count_next t rs a.n l.i l.k l.invariant.2 h (tested t rs l.i c.float_at.ensures c.keeps.ensures w.if-keeps.true))
-      | else-keeps w ↦ rw w.k-is (search rules, omega arith, count-not t rs a.n l.i l.k l.invariant.2 h (tested t rs l.i c.float_at.ensures c.keeps.ensures w.if-keeps.false))
+      | else-keeps w ↦ rw w.k-is (search rules, omega arith, count_not t rs a.n l.i l.k l.invariant.2 h (tested t rs l.i c.float_at.ensures c.keeps.ensures w.if-keeps.false))
     ]
 
 pub returns : goal.returns
 returns c =
     let l = c.loop-i in
-    (omega arith, count-done _ _ _ l.i l.k l.invariant.2 (search rules))
+    (omega arith, count_done _ _ _ l.i l.k l.invariant.2 (search rules))

@@ -5,15 +5,15 @@ use borrow.Author.Rules.{rules}
 use borrow.Author.Tests.{not-true, not-false}
 use lib.Ieee.{nan, eq, ne}
 use lib.ListN.{get_or, length-set}
-use Rattle.solve.specs.Constants.{minusOne}
-use Rattle.residuals.specs.Residual.{inFront}
-use Rattle.residuals.proofs.Gathered.{front-none, copied, passed}
+use Rattle.solve.specs.Constants.{minus_one}
+use Rattle.residuals.specs.Residual.{in_front}
+use Rattle.residuals.proofs.Gathered.{front_none, copied, passed}
 use Rattle.residuals.proofs.residual.gather.Goals as goal
 use Rattle.residuals.proofs.residual.gather.Goals.{then-x, else-x}
 
 pub loop-i-init : goal.loop-i-init
-unfolding inFront
-loop-i-init c = (search rules, search rules, search rules, refl, front-none c.args.l.now c.args.n)
+unfolding in_front
+loop-i-init c = (search rules, search rules, search rules, refl, front_none c.args.l.now c.args.n)
 
 pub loop-i-preserved : goal.loop-i-preserved
 unfolding ne
@@ -21,7 +21,7 @@ loop-i-preserved c =
     let a = c.args in
     let v = c.loop-i in
     let h = c.loop-i-test.true in
-    let t = eq (get_or v.l v.i nan) minusOne in
+    let t = eq (get_or v.l v.i nan) minus_one in
     elim c.if-x.branch [
       | then-x w ↦
           let s = copied a.l.now v.l a.n v.k v.i c.requires h v.invariant.3 v.invariant.4 (omega arith) (not-true t w.if-x.true) in

@@ -1,8 +1,8 @@
 use Rattle.std.proofs.Common.{sym, ◌∙◌}
 use lib.Ieee.{of_bits}
-use Rattle.rounding.proofs.NanTest.{at-nan}
+use Rattle.rounding.proofs.NanTest.{at_nan}
 use Rattle.rounding.proofs.canonical.canonical32.Goals as goal
 
 pub returns-then-x : goal.returns-then-x
 unfolding of_bits
-returns-then-x c = c.from_bits32.ensures ∙ sym (at-nan c.args.x c.if-x.true)
+returns-then-x c = c.from_bits32.ensures ∙ sym (at_nan c.args.x c.if-x.true)

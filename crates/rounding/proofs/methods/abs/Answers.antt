@@ -4,22 +4,22 @@ use mathlib.Core.Bool.{false≢true}
 use lib.Ieee.{Float, nan, inf, fin, Format, binary64, low, up, down, fits, neg, le, sub, add, sum, round}
 use lib.Ieee.Fits.{up_pos, down_pos, sub-fits, neg-fits}
 use lib.Ieee.Exact.{HasValue}
-use Rattle.rounding.specs.Methods.{absF}
+use Rattle.rounding.specs.Methods.{abs_f}
 use Rattle.rounding.proofs.Outer.{zero_is}
-use Rattle.rounding.proofs.Values.{value-held, same-value, rounded-exact}
+use Rattle.rounding.proofs.Values.{value_held, same_value, rounded_exact}
 use Rattle.rounding.proofs.methods.abs.Goals as goal
 
-abbrev zeroF : Float
-zeroF = fin false 0 (pos 0)
+abbrev zero_f : Float
+zero_f = fin false 0 (pos 0)
 
 -- ---- what `0.0 - x` rounds, for an x that is not above zero
-minus-negative : (f : Format) (m : ℕ) (e : ℤ) → sub f zeroF (fin true m e) ≡ round f false (0 * 1 * down e + m * up e * 1) (1 * down e)
+minus_negative : (f : Format) (m : ℕ) (e : ℤ) → sub f zero_f (fin true m e) ≡ round f false (0 * 1 * down e + m * up e * 1) (1 * down e)
 unfolding sub add sum neg
-minus-negative f m e = refl
+minus_negative f m e = refl
 
-minus-zero : (f : Format) (e : ℤ) → sub f zeroF (fin false zero e) ≡ round f false 0 (1 * down e)
+minus_zero : (f : Format) (e : ℤ) → sub f zero_f (fin false zero e) ≡ round f false 0 (1 * down e)
 unfolding sub add sum neg
-minus-zero f e =
+minus_zero f e =
     ap (λ (a : ℕ). sum f false a true (0 * up e * 1) (1 * down e)) (none (down e))
     ∙ ap (λ (b : ℕ). sum f false 0 true b (1 * down e)) (none' (up e))
   where
@@ -30,22 +30,22 @@ minus-zero f e =
     none' u = omega arith
 
 -- the difference is a float that fits, of the same value as the one that is wanted
-made : (f : Format) (s : Bool) (m : ℕ) (e : ℤ) (N : ℕ) → T (fits f (fin s m e)) → T (fits f (fin false m e)) → N ≡ m * up e → sub f zeroF (fin s m e) ≡ round f false N (1 * down e) → sub f zeroF (fin s m e) ≡ fin false m e
+made : (f : Format) (s : Bool) (m : ℕ) (e : ℤ) (N : ℕ) → T (fits f (fin s m e)) → T (fits f (fin false m e)) → N ≡ m * up e → sub f zero_f (fin s m e) ≡ round f false N (1 * down e) → sub f zero_f (fin s m e) ≡ fin false m e
 made f s m e N F G n r =
-    let v = value-held f s m e F in
+    let v = value_held f s m e F in
     let w : N * 2 ^ low f ≡ v.0 * (1 * down e) = ap (λ (x : ℕ). x * 2 ^ low f) n ∙ v.3.1 ∙ ap (λ (x : ℕ). v.0 * x) (sym (one-mul (down e))) in
-    same-value f false v.0 (sub f zeroF (fin s m e)) (fin false m e) (sub-fits f zeroF (fin s m e)) G
-    (subst (λ (y : Float). HasValue y false v.0 (2 ^ low f)) (sym r) (rounded-exact f false N (1 * down e) v.0 (mul-pos (zero-lt-suc 0) (down_pos e)) v.1 v.2 w))
+    same_value f false v.0 (sub f zero_f (fin s m e)) (fin false m e) (sub-fits f zero_f (fin s m e)) G
+    (subst (λ (y : Float). HasValue y false v.0 (2 ^ low f)) (sym r) (rounded_exact f false N (1 * down e) v.0 (mul-pos (zero-lt-suc 0) (down_pos e)) v.1 v.2 w))
     (refl, v.3.1)
 
-turned-fits : (f : Format) (m : ℕ) (e : ℤ) → T (fits f (fin true m e)) → T (fits f (fin false m e))
+turned_fits : (f : Format) (m : ℕ) (e : ℤ) → T (fits f (fin true m e)) → T (fits f (fin false m e))
 unfolding neg
-turned-fits f m e F = neg-fits f (fin true m e) F
+turned_fits f m e F = neg-fits f (fin true m e) F
 
 -- ---- the test itself
-above-zero : (m : ℕ) (e : ℤ) → le (fin false (suc m) e) zeroF ≡ false
+above_zero : (m : ℕ) (e : ℤ) → le (fin false (suc m) e) zero_f ≡ false
 unfolding le
-above-zero m e =
+above_zero m e =
     let p : 0 < suc m * up e = mul-pos (zero-lt-suc m) (up_pos e) in
     let z = zero-mul (down e) in
     rw (le-ltb (suc m * up e * 1) (0 * down e) (omega arith), ne_eqb (suc m * up e * 1) (0 * down e) (λ q. omega arith))
@@ -54,26 +54,26 @@ reached : (a b : ℕ) → b ≡ 0 → ltb 0 (a + b) || (eqb a b && (false || eqb
 reached zero b z = rw z
 reached (suc a) b z = rw (lt-ltb 0 (suc a + b) (omega arith))
 
-at-or-below : (m : ℕ) (e : ℤ) → le (fin true m e) zeroF ≡ true
+at_or_below : (m : ℕ) (e : ℤ) → le (fin true m e) zero_f ≡ true
 unfolding le
-at-or-below m e = reached (m * up e * 1) (0 * down e) (zero-mul (down e))
+at_or_below m e = reached (m * up e * 1) (0 * down e) (zero-mul (down e))
 
 -- ---- its two ways
-turned : (f : Format) (x : Float) → T (fits f x) → le x zeroF ≡ true → sub f zeroF x ≡ absF x
-unfolding le sub add neg absF
+turned : (f : Format) (x : Float) → T (fits f x) → le x zero_f ≡ true → sub f zero_f x ≡ abs_f x
+unfolding le sub add neg abs_f
 turned f nan F h = absurd (false≢true h)
 turned f (inf true) F h = refl
 turned f (inf false) F h = absurd (false≢true h)
-turned f (fin true m e) F h = made f true m e (0 * 1 * down e + m * up e * 1) F (turned-fits f m e F) (omega arith) (minus-negative f m e)
-turned f (fin false zero e) F h = made f false 0 e 0 F F (omega arith) (minus-zero f e)
-turned f (fin false (suc m) e) F h = absurd (false≢true (sym (above-zero m e) ∙ h))
+turned f (fin true m e) F h = made f true m e (0 * 1 * down e + m * up e * 1) F (turned_fits f m e F) (omega arith) (minus_negative f m e)
+turned f (fin false zero e) F h = made f false 0 e 0 F F (omega arith) (minus_zero f e)
+turned f (fin false (suc m) e) F h = absurd (false≢true (sym (above_zero m e) ∙ h))
 
-kept : (x : Float) → le x zeroF ≡ false → x ≡ absF x
-unfolding le absF
+kept : (x : Float) → le x zero_f ≡ false → x ≡ abs_f x
+unfolding le abs_f
 kept nan h = refl
 kept (inf true) h = absurd (false≢true (sym h))
 kept (inf false) h = refl
-kept (fin true m e) h = absurd (false≢true (sym h ∙ at-or-below m e))
+kept (fin true m e) h = absurd (false≢true (sym h ∙ at_or_below m e))
 kept (fin false m e) h = refl
 
 pub returns-then-x : goal.returns-then-x

@@ -1,14 +1,14 @@
-use Rattle.rounding.specs.Methods.{clampF}
+use Rattle.rounding.specs.Methods.{clamp_f}
 use Rattle.rounding.proofs.methods.clamp.Goals as goal
 
 pub returns-then-x-lo : goal.returns-then-x-lo
-unfolding clampF
+unfolding clamp_f
 returns-then-x-lo c = rw c.if-x-lo.true
 
 pub returns-then-hi-x : goal.returns-then-hi-x
-unfolding clampF
+unfolding clamp_f
 returns-then-hi-x c = rw (c.if-x-lo.false, c.if-hi-x.true)
 
 pub returns-else-hi-x : goal.returns-else-hi-x
-unfolding clampF
+unfolding clamp_f
 returns-else-hi-x c = rw (c.if-x-lo.false, c.if-hi-x.false)

@@ -1,15 +1,15 @@
-use Rattle.rounding.specs.Methods.{maxF}
+use Rattle.rounding.specs.Methods.{max_f}
 use Rattle.rounding.proofs.NanTest.{differs}
 use Rattle.rounding.proofs.methods.max.Goals as goal
 
 pub returns-then-a : goal.returns-then-a
-unfolding maxF
+unfolding max_f
 returns-then-a c = rw (← differs, c.if-a.true)
 
 pub returns-then-a-b : goal.returns-then-a-b
-unfolding maxF
+unfolding max_f
 returns-then-a-b c = rw (← differs, c.if-a.false, c.if-a-b.true)
 
 pub returns-else-a-b : goal.returns-else-a-b
-unfolding maxF
+unfolding max_f
 returns-else-a-b c = rw (← differs, c.if-a.false, c.if-a-b.false)

@@ -1,15 +1,15 @@
 use Rattle.std.proofs.Common.{◌≡◌, ℕ, sym, ap, ◌∙◌, arith}
 use Prim.Native.Nat.{compare, Ordering}
 use lib.Ieee.{Float}
-use Rattle.rounding.specs.Methods.{totalKey, totalCmp, orderOf}
+use Rattle.rounding.specs.Methods.{total_key, total_cmp, order_of}
 use Rattle.rounding.proofs.Half.{Cmp}
-use Rattle.rounding.proofs.Place.{compare-is}
+use Rattle.rounding.proofs.Place.{compare_is}
 use Rattle.rounding.proofs.methods.total_cmp.Goals as goal
 
 -- from how the two keys a and b compare
-by : (x y : Float) (a b : ℕ) (o : Ordering) → a ≡ totalKey x → b ≡ totalKey y → Cmp o a b → orderOf o ≡ totalCmp x y
-unfolding totalCmp
-by x y a b o p q h = sym (ap orderOf (compare-is o a b h)) ∙ ap (λ (k : ℕ). orderOf (compare k b)) p ∙ ap (λ (k : ℕ). orderOf (compare (totalKey x) k)) q
+by : (x y : Float) (a b : ℕ) (o : Ordering) → a ≡ total_key x → b ≡ total_key y → Cmp o a b → order_of o ≡ total_cmp x y
+unfolding total_cmp
+by x y a b o p q h = sym (ap order_of (compare_is o a b h)) ∙ ap (λ (k : ℕ). order_of (compare k b)) p ∙ ap (λ (k : ℕ). order_of (compare (total_key x) k)) q
 
 pub returns-then-a-b : goal.returns-then-a-b
 returns-then-a-b c = by _ _ c.total_key-a.result c.total_key-b.result Ordering.lt c.total_key-a.ensures c.total_key-b.ensures c.if-a-b.true

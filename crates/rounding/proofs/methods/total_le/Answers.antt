@@ -1,6 +1,6 @@
-use Rattle.rounding.specs.Methods.{totalLe}
+use Rattle.rounding.specs.Methods.{total_le}
 use Rattle.rounding.proofs.methods.total_le.Goals as goal
 
 pub returns : goal.returns
-unfolding totalLe
+unfolding total_le
 returns c = rw (c.total_key.ensures, c.total_key-2.ensures)

@@ -2,7 +2,7 @@
 use Rattle.std.proofs.Common.{◌≡◌, ◌*◌, ◌<◌, T, false, refl, rules}
 use lib.Ieee.{Float, binary32, fits, to_bits, of_bits, ne, eq, lt, ones, hid}
 use Rattle.rounding.specs.Pattern.{Positive}
-use Rattle.rounding.proofs.Outer.{root-nan, root-zero, root_below, bits_pos, root-inf, reads, no-nan-pattern, short}
+use Rattle.rounding.proofs.Outer.{root_nan, root_zero, root_below, bits_pos, root_inf, reads, no_nan_pattern, short}
 use Rattle.rounding.proofs.NanTest.{no_nan}
 use Rattle.rounding.proofs.root.sqrt32.Goals as goal
 
@@ -12,10 +12,10 @@ meets : (x : Float) → T (fits binary32 x) → ne x x ≡ false → eq x (of_bi
 meets x F n z b u = record { digits = refl; least = refl; above = bits_pos binary32 x F n z b; under = u }
 
 pub returns-then-x : goal.returns-then-x
-returns-then-x c = root-nan binary32 c.args.x c.if-x.true
+returns-then-x c = root_nan binary32 c.args.x c.if-x.true
 
 pub returns-then-x-2 : goal.returns-then-x-2
-returns-then-x-2 c = root-zero binary32 c.args.x c.if-x-2.true
+returns-then-x-2 c = root_zero binary32 c.args.x c.if-x-2.true
 
 pub returns-then-x-3 : goal.returns-then-x-3
 returns-then-x-3 c = root_below binary32 c.args.x c.if-x-3.true
@@ -38,7 +38,7 @@ pub float_from_bits-result : goal.float_from_bits-result
 float_from_bits-result c =
     let F : T (fits binary32 c.args.x) = search rules in
     let P = meets c.args.x F c.if-x.false c.if-x-2.false c.if-x-3.false c.if-b-lt2139095040.true in
-    no-nan-pattern binary32 c.args.x F c.if-x.false c.if-x-2.false c.if-x-3.false c.if-b-lt2139095040.true c.root_bits.result (c.root_bits.ensures binary32 P)
+    no_nan_pattern binary32 c.args.x F c.if-x.false c.if-x-2.false c.if-x-3.false c.if-b-lt2139095040.true c.root_bits.result (c.root_bits.ensures binary32 P)
 
 pub returns-then-b-lt2139095040 : goal.returns-then-b-lt2139095040
 returns-then-b-lt2139095040 c =
@@ -49,4 +49,4 @@ returns-then-b-lt2139095040 c =
 pub returns-else-b-lt2139095040 : goal.returns-else-b-lt2139095040
 returns-else-b-lt2139095040 c =
     let F : T (fits binary32 c.args.x) = search rules in
-    root-inf binary32 c.args.x F c.if-x.false c.if-x-2.false c.if-x-3.false c.if-b-lt2139095040.false
+    root_inf binary32 c.args.x F c.if-x.false c.if-x-2.false c.if-x-3.false c.if-b-lt2139095040.false

@@ -6,5 +6,5 @@ pub returns : goal.returns
 returns c =
     let a = c.args.a in
     let f = c.ranges.a.fits in
-    let y-lt : 511 - a / 2 ^ 55 < 384 = omega arith in
-    close (511 - a / 2 ^ 55) y-lt (a / 2 ^ 48) (omega arith) (omega arith)
+    let y_lt : 511 - a / 2 ^ 55 < 384 = omega arith in
+    close (511 - a / 2 ^ 55) y_lt (a / 2 ^ 48) (omega arith) (omega arith)

@@ -1,12 +1,12 @@
 -- Each division doubles the digits of the root, or nearly.
 use Rattle.std.proofs.Common.{ℕ, ◌+◌, ◌/◌, ◌^◌, ◌<◌, ◌≤◌, sym, subst, arith}
 use native.Mathlib.Nat.{div-div-eq-div-mul}
-use Rattle.rounding.specs.Root.{wholeRoot}
+use Rattle.rounding.specs.Root.{whole_root}
 use Rattle.rounding.proofs.Newton.{range}
 use Rattle.rounding.proofs.whole_root.whole_root.Goals as goal
 
 abbrev Near : ℕ → ℕ → Type 0
-Near n s = (wholeRoot n ≤ s) × (s ≤ wholeRoot n + 1)
+Near n s = (whole_root n ≤ s) × (s ≤ whole_root n + 1)
 
 -- after 8 digits
 range8 : (a s : ℕ) → 2 ^ 62 ≤ a → a < 2 ^ 64 → Near (a / 2 ^ 48) s → (2 ^ 7 ≤ s) × (s ≤ 2 ^ 8)

@@ -1,7 +1,7 @@
 -- `solve::solve::eliminated` meets its contract. The invariant: the rows before i as they stand, and those from i on reduced, are the whole. Assumes nothing.
 use Rattle.std.proofs.Common.{◌<◌, ◌≤◌, [], length, sym, ◌∙◌, add-one, arith, length-set, rules}
 use Rattle.solve.specs.Solve.{eliminated}
-use Rattle.solve.proofs.Elimination.{map_next, map-done}
+use Rattle.solve.proofs.Elimination.{map_next, map_done}
 use Rattle.solve.proofs.solve.eliminated.Goals as goal
 
 pub loop-i-init : goal.loop-i-init
@@ -18,4 +18,4 @@ pub returns : goal.returns
 returns c =
     let l = c.loop-i in
     let h : length l.n ≤ l.i = omega arith in
-    sym (map-done _ _ _ h) ∙ l.invariant.2
+    sym (map_done _ _ _ h) ∙ l.invariant.2

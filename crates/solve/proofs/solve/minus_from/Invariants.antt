@@ -1,9 +1,9 @@
-use Rattle.solve.specs.Solve.{minusFrom}
+use Rattle.solve.specs.Solve.{minus_from}
 use Rattle.std.proofs.Common.{◌≡◌, ◌-◌, length}
 use Rattle.solve.proofs.solve.minus_from.Given as goal
 
 abbrev pub invariant-loop-j : goal.invariant-loop-j
-invariant-loop-j l = (length l.x ≡ 4) × (length l.pivot ≡ 4) × (minusFrom l.j l.f l.x l.pivot ≡ minusFrom l.col l.f l.initial.x l.pivot)
+invariant-loop-j l = (length l.x ≡ 4) × (length l.pivot ≡ 4) × (minus_from l.j l.f l.x l.pivot ≡ minus_from l.col l.f l.initial.x l.pivot)
 
 abbrev pub decreases-loop-j : goal.decreases-loop-j
 decreases-loop-j l = 4 - l.j

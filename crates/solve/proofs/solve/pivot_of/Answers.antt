@@ -1,17 +1,17 @@
 -- `solve::solve::pivot_of` meets its contract. The invariant: the best from the row i on, beginning with p, is the pivot, and p is one of the rows. Assumes nothing.
-use Rattle.solve.proofs.Elimination.{best-start, best-next, best-done, better-row}
+use Rattle.solve.proofs.Elimination.{best_start, best_next, best_done, better_row}
 use Rattle.std.proofs.Common.{sym, ◌∙◌, add-one, arith, rules}
 use Rattle.solve.proofs.solve.pivot_of.Goals as goal
 
 pub loop-i-init : goal.loop-i-init
-loop-i-init c = (search rules, search rules, rw add-one (best-start _ _ (search rules) c.abs.ensures))
+loop-i-init c = (search rules, search rules, rw add-one (best_start _ _ (search rules) c.abs.ensures))
 
 pub loop-i-preserved : goal.loop-i-preserved
 loop-i-preserved c =
     let i = c.loop-i.invariant in
-    (search rules, rw c.better-p.ensures (better-row _ _ _ i.1 (omega arith)), rw (add-one, c.better-p.ensures) (best-next _ _ _ _ (omega arith) ∙ i.2))
+    (search rules, rw c.better-p.ensures (better_row _ _ _ i.1 (omega arith)), rw (add-one, c.better-p.ensures) (best_next _ _ _ _ (omega arith) ∙ i.2))
 
 pub returns : goal.returns
 returns c =
     let i = c.loop-i.invariant in
-    (sym (best-done _ _ _ _ (omega arith)) ∙ i.2, i.1)
+    (sym (best_done _ _ _ _ (omega arith)) ∙ i.2, i.1)

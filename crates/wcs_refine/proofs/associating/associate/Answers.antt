@@ -1,5 +1,5 @@
 -- `associating::associate` meets its contract: refused, the state as it came, or with the new matches. Assumes nothing.
-use Rattle.wcs_refine.proofs.AssociateSteps.{refused, too_few, can-compare, not_new, taken}
+use Rattle.wcs_refine.proofs.AssociateSteps.{refused, too_few, can_compare, not_new, taken}
 use Rattle.wcs_refine.proofs.associating.associate.Goals as goal
 
 pub returns-then-f : goal.returns-then-f
@@ -15,7 +15,7 @@ returns-then-t-lt-FEWEST c =
 pub same_matches-requires : goal.same_matches-requires
 same_matches-requires c =
     let a = c.args in
-    can-compare a.k a.room a.q a.points.now a.floats.now a.distances.now a.indices.now a.numbers.now a.held a.r _ c.find-f.result c.requires.0 c.requires.1 c.requires.2 c.find-f.ensures c.if-f.false
+    can_compare a.k a.room a.q a.points.now a.floats.now a.distances.now a.indices.now a.numbers.now a.held a.r _ c.find-f.result c.requires.0 c.requires.1 c.requires.2 c.find-f.ensures c.if-f.false
 
 pub returns-then-same_matches : goal.returns-then-same_matches
 returns-then-same_matches c =

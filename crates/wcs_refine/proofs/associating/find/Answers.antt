@@ -2,7 +2,7 @@
 use Rattle.std.proofs.Common.{refl, inl, arith}
 use Rattle.rounding.specs.Arith.{◌⊗◌}
 use Rattle.wcs_refine.proofs.SameLinks.{never}
-use Rattle.wcs_refine.proofs.FindSteps.{too_many, not-over, count-is, compared-is, reach, long, found-there}
+use Rattle.wcs_refine.proofs.FindSteps.{too_many, not_over, count_is, compared_is, reach, long, found_there}
 use Rattle.wcs_refine.proofs.associating.find.Goals as goal
 
 pub returns-in_default : goal.returns-in_default
@@ -32,12 +32,12 @@ returns c =
     let within = c.smaller-within.ensures in
     let is = c.in-Matches.is in
     record {
-      full = not-over a.room a.q a.points.now a.limit a.floats.now (a.r ⊗ a.r) a.distances.now a.indices.now a.numbers.now c.requires.0 c.requires.1 c.requires.2 c.greedy_unique_matches_by_strips-m.ensures is c.greedy_unique_matches_by_strips-m.auto.work;
+      full = not_over a.room a.q a.points.now a.limit a.floats.now (a.r ⊗ a.r) a.distances.now a.indices.now a.numbers.now c.requires.0 c.requires.1 c.requires.2 c.greedy_unique_matches_by_strips-m.ensures is c.greedy_unique_matches_by_strips-m.auto.work;
       within = within;
-      comparisons = compared-is a.room a.q a.points.now a.limit a.floats.now (a.r ⊗ a.r) a.distances.now a.indices.now a.numbers.now
+      comparisons = compared_is a.room a.q a.points.now a.limit a.floats.now (a.r ⊗ a.r) a.distances.now a.indices.now a.numbers.now
           c.requires.0 c.requires.1 c.requires.2 c.greedy_unique_matches_by_strips-m.ensures is c.greedy_unique_matches_by_strips-m.auto.work;
       found = λ e. (
-        count-is a.room a.q a.points.now a.limit a.floats.now (a.r ⊗ a.r) a.distances.now a.indices.now a.numbers.now c.requires.0 c.requires.1 c.requires.2 c.greedy_unique_matches_by_strips-m.ensures is c.greedy_unique_matches_by_strips-m.auto.work,
-        found-there a.room a.q a.points.now a.limit a.floats.now (a.r ⊗ a.r) a.distances.now a.indices.now a.numbers.now c.requires.0 c.requires.1 c.requires.2 c.greedy_unique_matches_by_strips-m.ensures is c.greedy_unique_matches_by_strips-m.auto.work refl within c.renamed_into.auto.numbers c.renamed_into.ensures,
+        count_is a.room a.q a.points.now a.limit a.floats.now (a.r ⊗ a.r) a.distances.now a.indices.now a.numbers.now c.requires.0 c.requires.1 c.requires.2 c.greedy_unique_matches_by_strips-m.ensures is c.greedy_unique_matches_by_strips-m.auto.work,
+        found_there a.room a.q a.points.now a.limit a.floats.now (a.r ⊗ a.r) a.distances.now a.indices.now a.numbers.now c.requires.0 c.requires.1 c.requires.2 c.greedy_unique_matches_by_strips-m.ensures is c.greedy_unique_matches_by_strips-m.auto.work refl within c.renamed_into.auto.numbers c.renamed_into.ensures,
       );
     }

@@ -6,8 +6,8 @@ use lib.Seq.{slice, slice_empty, length-slice}
 use Rattle.query.specs.Listing.{falling, standing}
 use Rattle.wcs_refine.specs.Listing.{Told, points}
 use Rattle.query.specs.declared.Fall.{Fall}
-use Rattle.query.proofs.Listed.{Writing, onward, push, in-front, behind, how-many, whole, front-push, front-whole, next-stands, next-off}
-use Rattle.wcs_refine.proofs.Listed.{next-points, next-no-points}
+use Rattle.query.proofs.Listed.{Writing, onward, push, in_front, behind, how_many, whole, front_push, front_whole, next_stands, next_off}
+use Rattle.wcs_refine.proofs.Listed.{next_points, next_no_points}
 use Rattle.wcs_refine.proofs.predict.predict_into.Goals as goal
 use Rattle.wcs_refine.proofs.predict.predict_into.Goals.{then-f, else-f}
 
@@ -18,12 +18,12 @@ module _ (start n to : ℕ) (apart : (start + n ≤ to) ⊎ (to + n ≤ start)) 
   unread h side =
       ⊎_elim
       (λ (p : to + k ≤ start + i). behind to k m o w (omega arith) (start + i) 0 p)
-      (λ (p : start + i < to). in-front to k m o w (omega arith) (start + i) 0 p)
+      (λ (p : start + i < to). in_front to k m o w (omega arith) (start + i) 0 p)
       side
 
 -- one number more
 module _ (f : ℕ → Fall) (start n to : ℕ) (o m : List ℕ) (xo xm : List Float) (k i : ℕ) (low : k ≤ i) (h : i < n) (fits : start + n ≤ length o)
-    (room : to + n ≤ length o) (points-room : 2 * n ≤ length xo)
+    (room : to + n ≤ length o) (points_room : 2 * n ≤ length xo)
     (same : get_or m (start + i) 0 ≡ get_or o (start + i) 0)
     (w : Writing to k m o (standing f (slice (start + i) (start + n) o)) (standing f (slice start (start + n) o)))
     (v : Writing 0 (2 * k) xm xo (points f (slice (start + i) (start + n) o)) (points f (slice start (start + n) o))) where
@@ -39,7 +39,7 @@ module _ (f : ℕ → Fall) (start n to : ℕ) (o m : List ℕ) (xo xm : List Fl
       let t : (f (get_or o (start + i) 0)).inside ≡ true = ap (λ (j : ℕ). (f j).inside) (sym same) ∙ ap (λ (p : Fall). p.inside) (sym e) ∙ b in
       subst (λ (a : ℕ). Writing to (k + 1) (set m (to + k) a) o (standing f (slice (start + (i + 1)) (start + n) o)) (standing f (slice start (start + n) o))) (sym same)
       (push to k m o (get_or o (start + i) 0)
-      (onward (next-stands f (start + n) (start + i) o below fits t ∙ ap (λ (j : ℕ). get_or o (start + i) 0 ∷ standing f (slice j (start + n) o)) step) w) (omega arith))
+      (onward (next_stands f (start + n) (start + i) o below fits t ∙ ap (λ (j : ℕ). get_or o (start + i) 0 ∷ standing f (slice j (start + n) o)) step) w) (omega arith))
 
   drew : {q : Fall} → q ≡ f (get_or m (start + i) 0) → q.inside ≡ true
       → Writing 0 (2 * (k + 1)) (set (set xm (2 * k) q.x) (2 * k + 1) q.y) xo (points f (slice (start + (i + 1)) (start + n) o)) (points f (slice start (start + n) o))
@@ -47,21 +47,21 @@ module _ (f : ℕ → Fall) (start n to : ℕ) (o m : List ℕ) (xo xm : List Fl
       let t : (f (get_or o (start + i) 0)).inside ≡ true = ap (λ (j : ℕ). (f j).inside) (sym same) ∙ ap (λ (p : Fall). p.inside) (sym e) ∙ b in
       let u : f (get_or o (start + i) 0) ≡ q = ap f (sym same) ∙ sym e in
       let next : points f (slice (start + i) (start + n) o) ≡ q.x ∷ q.y ∷ points f (slice (start + (i + 1)) (start + n) o) =
-      next-points f (start + n) (start + i) o below fits t ∙ ap (λ (p : Fall). p.x ∷ p.y ∷ points f (slice (start + i + 1) (start + n) o)) u
+      next_points f (start + n) (start + i) o below fits t ∙ ap (λ (p : Fall). p.x ∷ p.y ∷ points f (slice (start + i + 1) (start + n) o)) u
       ∙ ap (λ (j : ℕ). q.x ∷ q.y ∷ points f (slice j (start + n) o)) step in
       let two : 2 * k + 1 + 1 ≡ 2 * (k + 1) = omega arith in
-      let one = front-push (2 * k) xm xo q.x (onward next v) (omega arith) in
+      let one = front_push (2 * k) xm xo q.x (onward next v) (omega arith) in
       let r : 2 * k + 1 < length (set xm (2 * k) q.x) = simp length-set (omega arith) in
       subst (λ (j : ℕ). Writing 0 j (set (set xm (2 * k) q.x) (2 * k + 1) q.y) xo (points f (slice (start + (i + 1)) (start + n) o)) (points f (slice start (start + n) o))) two
-      (front-push (2 * k + 1) (set xm (2 * k) q.x) xo q.y one r)
+      (front_push (2 * k + 1) (set xm (2 * k) q.x) xo q.y one r)
 
   passed : {q : Fall} → q ≡ f (get_or m (start + i) 0) → q.inside ≡ false
       → (Writing to k m o (standing f (slice (start + (i + 1)) (start + n) o)) (standing f (slice start (start + n) o)))
       × (Writing 0 (2 * k) xm xo (points f (slice (start + (i + 1)) (start + n) o)) (points f (slice start (start + n) o)))
   passed {q} e b =
       let t : (f (get_or o (start + i) 0)).inside ≡ false = ap (λ (j : ℕ). (f j).inside) (sym same) ∙ ap (λ (p : Fall). p.inside) (sym e) ∙ b in (
-        onward (next-off f (start + n) (start + i) o below fits t ∙ ap (λ (j : ℕ). standing f (slice j (start + n) o)) step) w,
-        onward (next-no-points f (start + n) (start + i) o below fits t ∙ ap (λ (j : ℕ). points f (slice j (start + n) o)) step) v,
+        onward (next_off f (start + n) (start + i) o below fits t ∙ ap (λ (j : ℕ). standing f (slice j (start + n) o)) step) w,
+        onward (next_no_points f (start + n) (start + i) o below fits t ∙ ap (λ (j : ℕ). points f (slice j (start + n) o)) step) v,
       )
 
 -- where a place of the n numbers lies, when k of them are written
@@ -74,7 +74,7 @@ ended : (f : ℕ → Fall) (start n to : ℕ) (o m : List ℕ) (xo xm : List Flo
     → Writing 0 (2 * k) xm xo (points f (slice (start + i) (start + n) o)) (points f (slice start (start + n) o))
     → Told f start n to o m xo xm k
 unfolding standing points
-ended f start n to o m xo xm k i low u v apart fits room points-room w₀ x₀ =
+ended f start n to o m xo xm k i low u v apart fits room points_room w₀ x₀ =
     let e : start + i ≡ start + n = omega arith in
     let none : slice (start + i) (start + n) o ≡ [] = ap (λ (j : ℕ). slice j (start + n) o) e ∙ slice_empty (start + n) o in
     let w = onward (ap (standing f) none) w₀ in
@@ -84,9 +84,9 @@ ended f start n to o m xo xm k i low u v apart fits room points-room w₀ x₀ =
     let long : start + n ≤ length m = omega arith in
     let size : start + n - start ≡ n = omega arith in
     record {
-      count = how-many to k m o w r;
+      count = how_many to k m o w r;
       ids = whole to k m o w r;
-      xy = front-whole (2 * k) xm xo x s;
+      xy = front_whole (2 * k) xm xo x s;
       unchanged =
           ext_get_or 0 (slice start (start + n) m) (slice start (start + n) o) (length-slice start (start + n) m long ∙ sym (length-slice start (start + n) o fits))
           (λ j p.

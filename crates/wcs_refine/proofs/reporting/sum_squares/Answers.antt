@@ -2,8 +2,8 @@
 use Rattle.std.proofs.Common.{get_or, arith, rules}
 use borrow.Author.Tests.{not-true, not-false}
 use lib.Ieee.{nan, eq, ne}
-use Rattle.solve.specs.Constants.{minusOne}
-use Rattle.wcs_refine.proofs.ReportSteps.{squares-more, squares-same, squares-done}
+use Rattle.solve.specs.Constants.{minus_one}
+use Rattle.wcs_refine.proofs.ReportSteps.{squares_more, squares_same, squares_done}
 use Rattle.wcs_refine.proofs.reporting.sum_squares.Goals as goal
 use Rattle.wcs_refine.proofs.reporting.sum_squares.Goals.{then-x, else-x}
 
@@ -13,13 +13,13 @@ loop-i-preserved c =
     let l = c.loop-i in
     let rs = c.args.residuals.now in
     let h = c.loop-i-test.true in
-    let t = eq (get_or rs l.i nan) minusOne in
+    let t = eq (get_or rs l.i nan) minus_one in
     elim c.if-x.branch [
-      | then-x w ↦ rw (w.s-is) (omega arith, squares-more rs l.i l.s l.invariant.1 h (not-true t w.if-x.true))
-      | else-x w ↦ rw (w.s-is) (omega arith, squares-same rs l.i l.s l.invariant.1 h (not-false t w.if-x.false))
+      | then-x w ↦ rw (w.s-is) (omega arith, squares_more rs l.i l.s l.invariant.1 h (not-true t w.if-x.true))
+      | else-x w ↦ rw (w.s-is) (omega arith, squares_same rs l.i l.s l.invariant.1 h (not-false t w.if-x.false))
     ]
 
 pub returns : goal.returns
 returns c =
     let l = c.loop-i in
-    squares-done c.args.residuals.now l.i l.s l.invariant.1 (search rules)
+    squares_done c.args.residuals.now l.i l.s l.invariant.1 (search rules)

@@ -1,8 +1,8 @@
 -- `wcs_refine::rounds::run` meets its contract. The invariant: the rounds that are left, with the counts so far, give the whole. Assumes nothing.
 use Rattle.std.proofs.Common.{arith, rules}
-use Rattle.entry.specs.Entry.{fixedOf}
-use Rattle.wcs_refine.specs.Keeping.{heldState}
-use Rattle.wcs_refine.proofs.RunSteps.{turn-passes, turn-queries, turn_on, turn-ends, rounds-end, ran}
+use Rattle.entry.specs.Entry.{fixed_of}
+use Rattle.wcs_refine.specs.Keeping.{held_state}
+use Rattle.wcs_refine.proofs.RunSteps.{turn_passes, turn_queries, turn_on, turn_ends, rounds_end, ran}
 use Rattle.wcs_refine.proofs.rounds.run.Goals as goal
 
 pub overflow_add-passes : goal.overflow_add-passes
@@ -10,14 +10,14 @@ overflow_add-passes c =
     let a = c.args in
     let l = c.loop-i in
     let o = c.one_round-s in
-    omega (arith, c.requires.2, c.loop-i-test.true, l.invariant.1, turn-passes a.k a.room a.spots.now a.directions.now l.h l.numbers _ o.result o.ensures)
+    omega (arith, c.requires.2, c.loop-i-test.true, l.invariant.1, turn_passes a.k a.room a.spots.now a.directions.now l.h l.numbers _ o.result o.ensures)
 
 pub overflow_add-queries : goal.overflow_add-queries
 overflow_add-queries c =
     let a = c.args in
     let l = c.loop-i in
     let o = c.one_round-s in
-    omega (arith, c.requires.2, c.loop-i-test.true, l.invariant.2, turn-queries a.k a.room a.spots.now a.directions.now l.h l.numbers _ o.result o.ensures)
+    omega (arith, c.requires.2, c.loop-i-test.true, l.invariant.2, turn_queries a.k a.room a.spots.now a.directions.now l.h l.numbers _ o.result o.ensures)
 
 pub returns-then-stops : goal.returns-then-stops
 returns-then-stops c =
@@ -25,7 +25,7 @@ returns-then-stops c =
     let l = c.loop-i in
     let o = c.one_round-s in
     ran a.k a.room a.spots.now a.directions.now a.rounds a.held a.numbers.now _ _
-    (turn-ends a.k a.room a.spots.now a.directions.now l.h l.numbers _ o.result o.ensures a.rounds l.i l.passes l.queries l.comparisons
+    (turn_ends a.k a.room a.spots.now a.directions.now l.h l.numbers _ o.result o.ensures a.rounds l.i l.passes l.queries l.comparisons
     c.loop-i-test.true l.invariant.8 c.stops.ensures c.if-stops.true c.refusal_of-refusal.ensures c.greater-comparisons.ensures)
     o.ensures.fits
 
@@ -35,8 +35,8 @@ loop-i-preserved c =
     let l = c.loop-i in
     let o = c.one_round-s in (
       omega (arith, c.loop-i-test.true),
-      omega (arith, l.invariant.1, turn-passes a.k a.room a.spots.now a.directions.now l.h l.numbers _ o.result o.ensures),
-      omega (arith, l.invariant.2, turn-queries a.k a.room a.spots.now a.directions.now l.h l.numbers _ o.result o.ensures),
+      omega (arith, l.invariant.1, turn_passes a.k a.room a.spots.now a.directions.now l.h l.numbers _ o.result o.ensures),
+      omega (arith, l.invariant.2, turn_queries a.k a.room a.spots.now a.directions.now l.h l.numbers _ o.result o.ensures),
       o.ensures.fits,
       omega (arith, o.auto, l.invariant.4),
       omega (arith, o.auto, l.invariant.5),
@@ -51,5 +51,5 @@ returns c =
     let a = c.args in
     let l = c.loop-i in
     ran a.k a.room a.spots.now a.directions.now a.rounds a.held a.numbers.now _ _
-    (rounds-end (fixedOf a.k) a.spots.now a.directions.now a.rounds (heldState a.room l.h l.numbers) l.i l.passes l.queries l.comparisons (search rules)
+    (rounds_end (fixed_of a.k) a.spots.now a.directions.now a.rounds (held_state a.room l.h l.numbers) l.i l.passes l.queries l.comparisons (search rules)
     l.invariant.8) l.invariant.3

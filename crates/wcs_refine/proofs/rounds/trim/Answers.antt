@@ -1,13 +1,13 @@
 -- The residuals stand at the front of the floats, and their statistics pick the clip.
 use Rattle.std.proofs.Common.{◌≡◌, ◌-◌, ◌/◌, length, refl, arith}
-use Rattle.wcs_refine.proofs.RoundSteps.{trim-counts, trimmed}
+use Rattle.wcs_refine.proofs.RoundSteps.{trim_counts, trimmed}
 use Rattle.wcs_refine.proofs.rounds.trim.Goals as goal
 
 pub compute_stats-s-requires : goal.compute_stats-s-requires
 compute_stats-s-requires c =
     let a = c.args in (
       omega (arith, c.requires, c.compute_residuals-in_front.auto),
-      trim-counts a.k a.spots.now a.directions.now a.pose a.matches.now a.floats.now _ c.requires.1 c.compute_residuals-in_front.ensures,
+      trim_counts a.k a.spots.now a.directions.now a.pose a.matches.now a.floats.now _ c.requires.1 c.compute_residuals-in_front.ensures,
     )
 
 pub returns : goal.returns
