@@ -214,3 +214,36 @@ module _ (n : ℕ) (points predicted : List Float) (r2 : Float) where
 
   pub candidates : All Good (pairs_from r2 points predicted 0 n)
   candidates = candidates_from 0 n (omega arith)
+
+  module _ (g : Strips) where
+    -- the spots of a strip, out of the first m
+    strip_good : (j s m : ℕ) → m ≤ n → j < length predicted / 2 → All Good (pairs_along r2 points j (point_at predicted j) (in_strip g points s m))
+    unfolding in_strip pairs_along
+    strip_good j s zero h q = none
+    strip_good j s (suc m) h q = by (eqb (strip_of g (point_at points m).x) s) (strip_good j s m (omega arith) q)
+      where
+        by : (b : Bool) → All Good (pairs_along r2 points j (point_at predicted j) (in_strip g points s m))
+            → All Good (pairs_along r2 points j (point_at predicted j) (cond b (m ∷ in_strip g points s m) (in_strip g points s m)))
+        by true rest =
+            within_near Good r2 (pair_at points predicted m j) (pairs_along r2 points j (point_at predicted j) (in_strip g points s m)) (pair_good m j h q) rest
+        by false rest = rest
+
+    across_good : (j s k : ℕ) → j < length predicted / 2 → All Good (pairs_across g r2 points n j (point_at predicted j) s k)
+    unfolding pairs_across
+    across_good j s zero q = none
+    across_good j s (suc k) q =
+        all_append Good (pairs_along r2 points j (point_at predicted j) (in_strip g points s n)) (pairs_across g r2 points n j (point_at predicted j) (suc s) k)
+        (strip_good j s n (omega arith) q) (across_good j (suc s) k q)
+
+    near_good : (j : ℕ) → j < length predicted / 2 → All Good (pairs_near g r2 points n j (point_at predicted j))
+    near_good j q = across_good j _ _ q
+
+    by_strips_good : (j k : ℕ) → j + k ≤ length predicted / 2 → All Good (pairs_by_strips g r2 points predicted n j k)
+    unfolding pairs_by_strips
+    by_strips_good j zero h = none
+    by_strips_good j (suc k) h =
+        all_append Good (pairs_near g r2 points n j (point_at predicted j)) (pairs_by_strips g r2 points predicted n (suc j) k)
+        (near_good j (omega arith)) (by_strips_good (suc j) k (omega arith))
+
+    pub made : All (Candidate n points predicted r2) (pairs_by_strips g r2 points predicted n 0 (length predicted / 2))
+    made = by_strips_good 0 (length predicted / 2) (omega arith)
