@@ -27,6 +27,9 @@ DECLARED = [
     re.compile(rf"(?m)^[ \t]*(?:(?:abbrev|unfoldable|opaque|pub|private) +)*({PLACES}){ARGUMENT} +:(?=\s)"),
     re.compile(rf"\blet +({WORD}){ARGUMENT} +[:=](?=\s)"),
     re.compile(rf"[({{]({PLACES}) +: "),
+    # what stands for an argument on the left of an equation, and another name for what a file imports of its own
+    re.compile(rf"(?m)^[ \t]*{WORD} +({PLACES}) =(?=\s)"),
+    re.compile(rf"(?m)^use Rattle\.[^\n]*? as ({WORD})(?=[,}}])"),
 ]
 GOAL = re.compile(rf"(?m)^(?:abbrev )?(?:pub )?({WORD}) : goal\.")
 # In answers and invariants these stand for what the toolchain says of a goal, and the word behind them is its label.

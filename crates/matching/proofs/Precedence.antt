@@ -12,7 +12,7 @@ use Rattle.matching.specs.Ordered.{InOrder, Measured}
 use Rattle.matching.specs.Meaning.{Frame, apart, Near, Earlier}
 use Rattle.lists.proofs.Cases.{below_or}
 use Rattle.pairs.proofs.Elements.{all_head, all_tail}
-use Rattle.pairs.proofs.Monotone.{clash as lt-clash, lt_le}
+use Rattle.pairs.proofs.Monotone.{clash as lt_clash, lt_le}
 use Rattle.pairs.proofs.Rearranged.{candidates}
 use Rattle.matching.proofs.Merging.{order_head, order_tail, merged_ordered}
 use Rattle.matching.proofs.Unique.{before_all}
@@ -43,7 +43,7 @@ module _ (f : Frame) where
 
   -- nothing is earlier than itself, nor than what it is not after
   pub never : (m : Match) → Earlier f m m → ⊥
-  never m (inl h) = let d = apart f m in lt-clash d d (holds h) (lt_le d d (holds h))
+  never m (inl h) = let d = apart f m in lt_clash d d (holds h) (lt_le d d (holds h))
   never m (inr (e, inl h)) = omega arith
   never m (inr (e, inr h)) = omega (arith, h.1)
 
