@@ -4,12 +4,13 @@
 usage: respell.py [FOLDER]      FOLDER is the root of a checkout; the one that this file stands in where none is given. A second run writes nothing.
 
 What is turned: the words of specs/ and proofs/ that are declared there, wherever they stand in these, in clauses and `ghost use` lines of src/,
-in must-fail edits, in comments, and in the code spans of README.md and docs/. A word in camel case is always the repository's own, since neither
+in must-fail edits, in comments and in README.md and docs/: there words in camel case anywhere, words with a dash in code spans. A word in camel case is always the repository's own, since neither
 the toolchain nor Rust has one that begins with a small letter; a word with a dash is its own where it is declared.
 What stays: types, modules and files; functions, fields and everything else of src/; names that a library declares, in the files that import them;
 the labels that the toolchain makes of goals and of what is known at them (`loop-i`, `returns-2`, `n-is`); strings, vectors, stored answers.
 
-Where two words would fall together in one file, the lemma gets the ending _lem, as lemmas do that would have their function's name: ENDINGS.
+Where two words would fall together in one file, the lemma gets the ending _lem, as lemmas do that would have a definition's name: ENDINGS and MET. It
+prints how many words there were to turn, and how many files it changed.
 """
 
 import os
@@ -39,10 +40,10 @@ CLAUSE = re.compile(r"\b(?:requires|ensures)\*?\s*(?:\w+\s*)?\{|\bghost\s*(?:\w+
 GHOST_USE = re.compile(r"\bghost\s+use\b[^;]*;")
 SPAN = re.compile(r"`[^`\n]+`")
 ENDINGS = {"direction-at", "is-nan", "nan-bits", "outcome-of", "refused-text", "same-link", "turned-away", "written-fields"}
-# The same where only one file has both.
+# The same of a lemma, on the left, in the files alone that have the definition, on the right.
 MET = {"in-turn": "in_turn", "minus_one": "minusOne"}
 
-# Pages that name stored inputs, whose names stay, or spellings as they were.
+# Pages that name stored inputs, whose names stay, and spellings as they were.
 STAY = {"DIFFERENCES.md", "PORT.md"}
 
 
