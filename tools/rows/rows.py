@@ -8,22 +8,22 @@ PLACE = os.path.join(os.path.dirname(os.path.abspath(__file__)), '..', '..', 'cr
 
 # What a file of a call may cite, module by module; it imports of these what it does cite.
 CITED = '''
-Rattle.std.specs.Prelude ◌≡◌ refl true false List [] ◌∷◌ replicate Float
+Rattle.std.specs.Prelude ◌≡◌ refl true false Some None List [] ◌∷◌ replicate Float
 Rattle.rounding.specs.Arith f64 zero64 one64
 Rattle.project.specs.Camera boresight camera_rows
 Rattle.panel.specs.Points points_of
-Rattle.fit.specs.Rows Row row_of rows View view_of
+Rattle.fit.specs.Rows Row row_of rows view_of
 Rattle.fit.specs.Normal no_matches with_rows normal_matrix solved_sums
 Rattle.residuals.specs.Residual residuals in_front mad_clip_matches
 Rattle.solve.specs.Covariance covariance_from_normal
 Rattle.project.specs.Project cd_from_theta
 Rattle.fit.specs.declared.Pose Pose
+Rattle.fit.specs.declared.View View
 Rattle.fit.specs.declared.Counted Counted
-Rattle.residuals.specs.declared.Clip.TheVariants Kept Unchanged
 Rattle.entry.specs.Arguments Call
 Rattle.entry.specs.Fixed Fixed
 Rattle.passes.specs.Fit fit_passes moved sound still
-Rattle.wcs_refine.specs.Clip none some statistics clipped taken
+Rattle.wcs_refine.specs.Clip statistics clipped taken
 Rattle.wcs_refine.specs.Associate adaptive_px
 Rattle.query.specs.Query empty full axis32 least_cos scanned drifted Prediction predictions pruned
 Rattle.wcs_refine.specs.Round State go done refuse associated compared refused ended loop round
@@ -63,9 +63,8 @@ def view(w):
     return record((('basis', matrix(w['basis'])),
         ('cos_t', number(w['cos_t'])), ('sin_t', number(w['sin_t'])), ('ps', number(w['ps'])), ('cut', number(w['cut']))))
 def sums(t):
-    a = t['ata']
-    four = record((('ata0', vector(a[0])), ('ata1', vector(a[1])), ('ata2', vector(a[2])), ('atb', vector(t['atb']))))
-    return record((('sums', four), ('n', t['n'])))
+    both = record((('ata', matrix(t['ata'])), ('atb', vector(t['atb']))))
+    return record((('sums', both), ('n', t['n'])))
 def rows_of(rs):
     return spread('row_of (record { px = %s; py = %s; weight = %s }) (%s)' % (*map(number, s), vector(v)) for s, v in rs)
 def predictions_of(qs):
@@ -177,7 +176,7 @@ class Writer:
                     'unsound_round k spots directions %s looked_%d passes_%d' % (s, i, i))
                 ends.append('refused'); break
             v = w.viewed(i, e['view']); vs = w.value('List Float', 'residuals_%d' % i, spread(map(number, e['residuals'])))
-            st = 'none' if e['stats'] is None else '(some (record { median = %s; sigma = %s }))' % tuple(map(number, e['stats']))
+            st = 'None' if e['stats'] is None else '(Some (record { median = %s; sigma = %s }))' % tuple(map(number, e['stats']))
             ms, kept, r = flat(e['matches0']), flat(e['clipped']), argument(e['r'])
             w.computed('measured_%d' % i, 'Measured k %s %s (%s) %s %s\n    %s\n    (%s) %s' % (rs, p, ms, v, vs, st, kept, r),
                 'view_of residuals statistics clipped adaptive_px', ('view', 'values', 'summary', 'clip', 'radius'))
@@ -250,7 +249,7 @@ class Writer:
             p, ms = w.newpose(g['p']), [n for m in g['ms'] for n in m]; kept = [n for m in g['kept'] or [] for n in m]
             rs = w.value('List Row', 'rows_clip_%d' % j, rows_of(w.c.rows(g['ms']))); v = w.viewed('clip_%d' % j, g['view'])
             vs = w.value('List Float', 'residuals_clip_%d' % j, spread(map(number, g['rs'])))
-            answer, new = ('(Kept %d)' % (len(kept) // 2), kept + ms[len(kept):]) if kept else ('Unchanged', ms)
+            answer, new = ('(Some %d)' % (len(kept) // 2), kept + ms[len(kept):]) if kept else ('None', ms)
             w.computed('clip_%d' % j, 'Clipping k spots directions %s (%s) %s %s %s\n    (record { median = %s; sigma = %s })\n    %s (%s)' % (
                 p, whole(ms), rs, v, vs, *map(number, g['stats']), answer, whole(new)),
                 'rows view_of residuals statistics mad_clip_matches', ('enough', 'looked', 'view', 'values', 'summary', 'clip'))

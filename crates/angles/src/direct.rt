@@ -1,6 +1,7 @@
 // Sine and cosine. Quarter turns are taken off until the angle is within an eighth of a turn of 0; how many went says which of the two series
 // of the rest is asked for, and its sign.
 ghost use Rattle.std.specs.Prelude.{◌≡◌};
+ghost use Rattle.std.specs.List.{fold};
 ghost use Rattle.std.specs.Float.Ieee.{to_unsigned};
 ghost use Rattle.rounding.specs.Arith.{◌⊖◌, ◌⊗◌, ◌⊘◌, one64};
 ghost use Rattle.angles.specs.SinCos.{quarter_turns, reduced, sine, cosine, mod4, by_quarter, in_reach, sin_cos, sin, cos, cos32};
@@ -42,17 +43,13 @@ fn rest(a: f64, k: f64) -> f64
     a - k * P1 - k * P2
 }
 
-// One bracket of a series around another, and the innermost. Functions of their own, so that a contract names z once and not in each bracket.
-fn bracket(z: f64, d: f64, inner: f64) -> f64
-    ensures { result ≡ one64 ⊖ z ⊘ d ⊗ inner }
+// A bracket for each divisor, from the inside out.
+fn brackets(z: f64, divisors: &[f64], innermost: f64) -> f64
+    ensures { result ≡ fold (λ inner d. one64 ⊖ z ⊘ d ⊗ inner) innermost divisors.now }
 {
-    1.0 - z / d * inner
-}
-
-fn innermost(z: f64, d: f64) -> f64
-    ensures { result ≡ one64 ⊖ z ⊘ d }
-{
-    1.0 - z / d
+    divisors
+        .iter()
+        .fold(innermost, |inner, d| 1.0 - z / *d * inner)
 }
 
 // The series, from the innermost bracket out.
@@ -60,28 +57,16 @@ fn sine_of(x: f64) -> f64
     ensures { result ≡ sine x }
 {
     let z = x * x;
-    let g = innermost(z, 210.0);
-    let f = bracket(z, 156.0, g);
-    let e = bracket(z, 110.0, f);
-    let d = bracket(z, 72.0, e);
-    let c = bracket(z, 42.0, d);
-    let b = bracket(z, 20.0, c);
-    let a = bracket(z, 6.0, b);
-    x * a
+    let divisors = [156.0, 110.0, 72.0, 42.0, 20.0, 6.0];
+    x * brackets(z, &divisors, 1.0 - z / 210.0)
 }
 
 fn cosine_of(x: f64) -> f64
     ensures { result ≡ cosine x }
 {
     let z = x * x;
-    let h = innermost(z, 240.0);
-    let g = bracket(z, 182.0, h);
-    let f = bracket(z, 132.0, g);
-    let e = bracket(z, 90.0, f);
-    let d = bracket(z, 56.0, e);
-    let c = bracket(z, 30.0, d);
-    let b = bracket(z, 12.0, c);
-    bracket(z, 2.0, b)
+    let divisors = [182.0, 132.0, 90.0, 56.0, 30.0, 12.0, 2.0];
+    brackets(z, &divisors, 1.0 - z / 240.0)
 }
 
 // x without its fraction, and within a `u64`: 0 below 0 and of a NaN, and the largest from 2^64 on.
@@ -148,16 +133,17 @@ pub fn sin_cos(a: f64) -> SinCos
 pub fn sin(a: f64) -> f64
     ensures { result ≡ sin a }
 {
-    let both = sin_cos(a);
-    both.sin
+    let SinCos { sin, .. } = sin_cos(a);
+    sin
 }
 
 // The cosine alone.
+// Stays (no plainer): sine and cosine are two functions of the Rust, each one call and one of its fields.
 pub fn cos(a: f64) -> f64
     ensures { result ≡ cos a }
 {
-    let both = sin_cos(a);
-    both.cos
+    let SinCos { cos, .. } = sin_cos(a);
+    cos
 }
 
 // The cosine of an `f32`: widened, and the answer narrowed.

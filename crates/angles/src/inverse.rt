@@ -1,9 +1,10 @@
 // The inverse functions. The angle is halved three times, by what that does to its tangent, so that the series needs few terms.
 ghost use Rattle.std.specs.Prelude.{◌≡◌};
+ghost use Rattle.std.specs.List.{fold};
 ghost use Rattle.rounding.specs.Arith.{◌⊖◌, ◌⊗◌};
 ghost use Rattle.angles.specs.Inverse.{halved, series, atan_small, atan_magnitude, atan, asin, zero_angle, atan2};
 
-use rounding::{abs, is_nan, is_negative, sqrt64};
+use rounding::{abs, is_nan, is_negative, sqrt};
 
 const HALF_PI: f64 = 1.5707963267948966;
 
@@ -13,29 +14,30 @@ const PI: f64 = 3.141592653589793;
 fn half(t: f64) -> f64
     ensures { result ≡ halved t }
 {
-    t / (1.0 + sqrt64(1.0 + t * t))
+    t / (1.0 + sqrt(1.0 + t * t))
 }
 
-// One bracket of the series around another.
-fn term(w: f64, part: f64, inner: f64) -> f64
-    ensures { result ≡ part ⊖ w ⊗ inner }
+// A bracket for each part, from the inside out.
+fn brackets(w: f64, parts: &[f64], innermost: f64) -> f64
+    ensures { result ≡ fold (λ inner p. p ⊖ w ⊗ inner) innermost parts.now }
 {
-    part - w * inner
+    parts.iter().fold(innermost, |inner, p| *p - w * inner)
 }
 
-// Eight times the angle of a small tangent, from the innermost bracket out: the three halvings undone.
+// Eight times the angle of a small tangent: the three halvings undone.
 fn series_of(t: f64) -> f64
     ensures { result ≡ series t }
 {
-    let w = t * t;
-    let g = term(w, 1.0 / 13.0, 1.0 / 15.0);
-    let f = term(w, 1.0 / 11.0, g);
-    let e = term(w, 1.0 / 9.0, f);
-    let d = term(w, 1.0 / 7.0, e);
-    let c = term(w, 1.0 / 5.0, d);
-    let b = term(w, 1.0 / 3.0, c);
-    let a = term(w, 1.0, b);
-    8.0 * (t * a)
+    let parts = [
+        1.0 / 13.0,
+        1.0 / 11.0,
+        1.0 / 9.0,
+        1.0 / 7.0,
+        1.0 / 5.0,
+        1.0 / 3.0,
+        1.0,
+    ];
+    8.0 * (t * brackets(t * t, &parts, 1.0 / 15.0))
 }
 
 // The angle of a tangent t from 0 to 1.
@@ -71,7 +73,7 @@ pub fn asin(v: f64) -> f64
     if 1.0 < abs(v) {
         0.0 / 0.0
     } else {
-        atan(v / sqrt64((1.0 - v) * (1.0 + v)))
+        atan(v / sqrt((1.0 - v) * (1.0 + v)))
     }
 }
 
@@ -93,10 +95,7 @@ fn zero_angle(y: f64, x: f64) -> f64
 pub fn atan2(y: f64, x: f64) -> f64
     ensures { result ≡ atan2 y x }
 {
-    if is_nan(y) {
-        return 0.0 / 0.0;
-    }
-    if is_nan(x) {
+    if is_nan(y) || is_nan(x) {
         return 0.0 / 0.0;
     }
     if 0.0 < x {

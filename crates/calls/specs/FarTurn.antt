@@ -2,9 +2,10 @@
 -- Written by tools/rows/rows.py: the values are those of its model, and the check computes every equation. Assumes nothing.
 use Rattle.std.specs.Prelude.{◌≡◌, refl, false, List, [], ◌∷◌, replicate, Float}
 use Rattle.rounding.specs.Arith.{f64, zero64, one64}
-use Rattle.fit.specs.Rows.{Row, row_of, rows, View, view_of}
+use Rattle.fit.specs.Rows.{Row, row_of, rows, view_of}
 use Rattle.fit.specs.Normal.{no_matches, with_rows, solved_sums}
 use Rattle.fit.specs.declared.Pose.{Pose}
+use Rattle.fit.specs.declared.View.{View}
 use Rattle.fit.specs.declared.Counted.{Counted}
 use Rattle.entry.specs.Arguments.{Call}
 use Rattle.entry.specs.Fixed.{Fixed}
@@ -128,9 +129,11 @@ view_1_1 = record {
 abbrev sums_1_1 : Counted
 sums_1_1 = record {
   sums = record {
-    ata0 = f64 0x3CD0040000000000 ∷ f64 0xBEB0000000000000 ∷ f64 0x3E10000000000000 ∷ [];
-    ata1 = f64 0xBEB0000000000000 ∷ f64 0x4090040100000000 ∷ zero64 ∷ [];
-    ata2 = f64 0x3E10000000000000 ∷ zero64 ∷ f64 0x4090040100000000 ∷ [];
+    ata =
+        (f64 0x3CD0040000000000 ∷ f64 0xBEB0000000000000 ∷ f64 0x3E10000000000000 ∷ [])
+        ∷ (f64 0xBEB0000000000000 ∷ f64 0x4090040100000000 ∷ zero64 ∷ [])
+        ∷ (f64 0x3E10000000000000 ∷ zero64 ∷ f64 0x4090040100000000 ∷ [])
+        ∷ [];
     atb = f64 0xBE205A1CB9100000 ∷ f64 0x400051F0B0B85000 ∷ f64 0x4026893729BC0000 ∷ [];
   };
   n = 3;

@@ -1,20 +1,21 @@
 -- A direction whose denominator is the cut: a query lists it, and it is neither predicted nor cached, though in the second round it would fit.
 -- Written by tools/rows/rows.py: the values are those of its model, and the check computes every equation. Assumes nothing.
-use Rattle.std.specs.Prelude.{◌≡◌, refl, true, false, List, [], ◌∷◌, replicate, Float}
+use Rattle.std.specs.Prelude.{◌≡◌, refl, true, false, None, List, [], ◌∷◌, replicate, Float}
 use Rattle.rounding.specs.Arith.{f64, zero64, one64}
 use Rattle.project.specs.Camera.{boresight, camera_rows}
 use Rattle.panel.specs.Points.{points_of}
-use Rattle.fit.specs.Rows.{Row, row_of, rows, View, view_of}
+use Rattle.fit.specs.Rows.{Row, row_of, rows, view_of}
 use Rattle.fit.specs.Normal.{no_matches, with_rows, normal_matrix, solved_sums}
 use Rattle.residuals.specs.Residual.{residuals, in_front}
 use Rattle.solve.specs.Covariance.{covariance_from_normal}
 use Rattle.project.specs.Project.{cd_from_theta}
 use Rattle.fit.specs.declared.Pose.{Pose}
+use Rattle.fit.specs.declared.View.{View}
 use Rattle.fit.specs.declared.Counted.{Counted}
 use Rattle.entry.specs.Arguments.{Call}
 use Rattle.entry.specs.Fixed.{Fixed}
 use Rattle.passes.specs.Fit.{fit_passes, moved, sound, still}
-use Rattle.wcs_refine.specs.Clip.{none, statistics, clipped}
+use Rattle.wcs_refine.specs.Clip.{statistics, clipped}
 use Rattle.wcs_refine.specs.Associate.{adaptive_px}
 use Rattle.query.specs.Query.{empty, full, axis32, least_cos, scanned, drifted, Prediction, predictions, pruned}
 use Rattle.wcs_refine.specs.Round.{State, go, done, associated, compared, ended, loop, round}
@@ -135,7 +136,7 @@ abbrev residuals_1 : List Float
 residuals_1 = f64 0xBFF0000000000000 ∷ []
 
 measured_1 : Measured k rows_1 pose_0 (4 ∷ 4 ∷ []) view_1 residuals_1
-    none
+    None
     (4 ∷ 4 ∷ []) (f64 0x3FF0624DE0000000)
 unfolding view_of residuals statistics clipped adaptive_px arithmetic
 measured_1 = record { view = refl; values = refl; summary = refl; clip = refl; radius = refl }
@@ -200,9 +201,11 @@ pose_1 = record {
 abbrev sums_2_1 : Counted
 sums_2_1 = record {
   sums = record {
-    ata0 = f64 0x3F3B1CC500000000 ∷ f64 0xBF74800000000000 ∷ f64 0x3F4C800000000000 ∷ [];
-    ata1 = f64 0xBF74800000000000 ∷ f64 0x4010000000000000 ∷ zero64 ∷ [];
-    ata2 = f64 0x3F4C800000000000 ∷ zero64 ∷ f64 0x4010000000000000 ∷ [];
+    ata =
+        (f64 0x3F3B1CC500000000 ∷ f64 0xBF74800000000000 ∷ f64 0x3F4C800000000000 ∷ [])
+        ∷ (f64 0xBF74800000000000 ∷ f64 0x4010000000000000 ∷ zero64 ∷ [])
+        ∷ (f64 0x3F4C800000000000 ∷ zero64 ∷ f64 0x4010000000000000 ∷ [])
+        ∷ [];
     atb = f64 0xBE789399D0000000 ∷ f64 0x3F21126A00000000 ∷ f64 0xBED47A8000000000 ∷ [];
   };
   n = 4;
@@ -237,9 +240,11 @@ view_2_2 = record {
 abbrev sums_2_2 : Counted
 sums_2_2 = record {
   sums = record {
-    ata0 = f64 0x3F3B1CC500000000 ∷ f64 0xBF7480298750B696 ∷ f64 0x3F4C7887382B3670 ∷ [];
-    ata1 = f64 0xBF7480298750B696 ∷ f64 0x4010000000000000 ∷ zero64 ∷ [];
-    ata2 = f64 0x3F4C7887382B3670 ∷ zero64 ∷ f64 0x4010000000000000 ∷ [];
+    ata =
+        (f64 0x3F3B1CC500000000 ∷ f64 0xBF7480298750B696 ∷ f64 0x3F4C7887382B3670 ∷ [])
+        ∷ (f64 0xBF7480298750B696 ∷ f64 0x4010000000000000 ∷ zero64 ∷ [])
+        ∷ (f64 0x3F4C7887382B3670 ∷ zero64 ∷ f64 0x4010000000000000 ∷ [])
+        ∷ [];
     atb = f64 0xBDB85A98530F5000 ∷ f64 0xBE38C0941DA80000 ∷ f64 0xBDF2EAF1EF228000 ∷ [];
   };
   n = 4;
@@ -274,9 +279,11 @@ view_2_3 = record {
 abbrev sums_2_3 : Counted
 sums_2_3 = record {
   sums = record {
-    ata0 = f64 0x3F3B1CC4FFFFFFFF ∷ f64 0xBF7480298304F874 ∷ f64 0x3F4C7887FE236AF0 ∷ [];
-    ata1 = f64 0xBF7480298304F874 ∷ f64 0x4010000000000000 ∷ zero64 ∷ [];
-    ata2 = f64 0x3F4C7887FE236AF0 ∷ zero64 ∷ f64 0x4010000000000000 ∷ [];
+    ata =
+        (f64 0x3F3B1CC4FFFFFFFF ∷ f64 0xBF7480298304F874 ∷ f64 0x3F4C7887FE236AF0 ∷ [])
+        ∷ (f64 0xBF7480298304F874 ∷ f64 0x4010000000000000 ∷ zero64 ∷ [])
+        ∷ (f64 0x3F4C7887FE236AF0 ∷ zero64 ∷ f64 0x4010000000000000 ∷ [])
+        ∷ [];
     atb = f64 0x3D042DBFAE000000 ∷ f64 0x3D53229800000000 ∷ f64 0x3D28333E00000000 ∷ [];
   };
   n = 4;
@@ -309,7 +316,7 @@ abbrev residuals_2 : List Float
 residuals_2 = f64 0x3EE02603F832E87A ∷ f64 0x3EB177F8C267BE34 ∷ f64 0x3ECB62F22C26CF5E ∷ f64 0x3ED17F4351201602 ∷ []
 
 measured_2 : Measured k rows_2 pose_3 (1 ∷ 1 ∷ 2 ∷ 2 ∷ 0 ∷ 0 ∷ 3 ∷ 3 ∷ []) view_2 residuals_2
-    none
+    None
     (1 ∷ 1 ∷ 2 ∷ 2 ∷ 0 ∷ 0 ∷ 3 ∷ 3 ∷ []) (f64 0x3FF0624DE0000000)
 unfolding view_of residuals statistics clipped adaptive_px arithmetic
 measured_2 = record { view = refl; values = refl; summary = refl; clip = refl; radius = refl }
@@ -362,9 +369,11 @@ looked_last = refl
 abbrev normal : Counted
 normal = record {
   sums = record {
-    ata0 = f64 0x3F3B1CC4FFFFFFFF ∷ f64 0xBF748029830551BE ∷ f64 0x3F4C7887FE135874 ∷ [];
-    ata1 = f64 0xBF748029830551BE ∷ f64 0x4010000000000000 ∷ zero64 ∷ [];
-    ata2 = f64 0x3F4C7887FE135874 ∷ zero64 ∷ f64 0x4010000000000000 ∷ [];
+    ata =
+        (f64 0x3F3B1CC4FFFFFFFF ∷ f64 0xBF748029830551BE ∷ f64 0x3F4C7887FE135874 ∷ [])
+        ∷ (f64 0xBF748029830551BE ∷ f64 0x4010000000000000 ∷ zero64 ∷ [])
+        ∷ (f64 0x3F4C7887FE135874 ∷ zero64 ∷ f64 0x4010000000000000 ∷ [])
+        ∷ [];
     atb = zero64 ∷ zero64 ∷ zero64 ∷ [];
   };
   n = 4;

@@ -1,21 +1,21 @@
 -- Two rounds with one query, used up, and a clip with its fit at the closing.
 -- Written by tools/rows/rows.py: the values are those of its model, and the check computes every equation. Assumes nothing.
-use Rattle.std.specs.Prelude.{◌≡◌, refl, true, false, List, [], ◌∷◌, replicate, Float}
+use Rattle.std.specs.Prelude.{◌≡◌, refl, true, false, Some, None, List, [], ◌∷◌, replicate, Float}
 use Rattle.rounding.specs.Arith.{f64, zero64, one64}
 use Rattle.project.specs.Camera.{boresight, camera_rows}
 use Rattle.panel.specs.Points.{points_of}
-use Rattle.fit.specs.Rows.{Row, row_of, rows, View, view_of}
+use Rattle.fit.specs.Rows.{Row, row_of, rows, view_of}
 use Rattle.fit.specs.Normal.{no_matches, with_rows, normal_matrix, solved_sums}
 use Rattle.residuals.specs.Residual.{residuals, in_front, mad_clip_matches}
 use Rattle.solve.specs.Covariance.{covariance_from_normal}
 use Rattle.project.specs.Project.{cd_from_theta}
 use Rattle.fit.specs.declared.Pose.{Pose}
+use Rattle.fit.specs.declared.View.{View}
 use Rattle.fit.specs.declared.Counted.{Counted}
-use Rattle.residuals.specs.declared.Clip.TheVariants.{Kept, Unchanged}
 use Rattle.entry.specs.Arguments.{Call}
 use Rattle.entry.specs.Fixed.{Fixed}
 use Rattle.passes.specs.Fit.{fit_passes, moved, sound, still}
-use Rattle.wcs_refine.specs.Clip.{none, some, statistics, clipped, taken}
+use Rattle.wcs_refine.specs.Clip.{statistics, clipped, taken}
 use Rattle.wcs_refine.specs.Associate.{adaptive_px}
 use Rattle.query.specs.Query.{empty, full, axis32, least_cos, scanned, drifted, Prediction, predictions, pruned}
 use Rattle.wcs_refine.specs.Round.{State, go, associated, compared, ended, loop, round}
@@ -138,7 +138,7 @@ abbrev residuals_1 : List Float
 residuals_1 = []
 
 measured_1 : Measured k rows_1 pose_0 ([]) view_1 residuals_1
-    none
+    None
     ([]) (f64 0x40089374C0000000)
 unfolding view_of residuals statistics clipped adaptive_px arithmetic
 measured_1 = record { view = refl; values = refl; summary = refl; clip = refl; radius = refl }
@@ -209,9 +209,11 @@ pose_1 = record {
 abbrev sums_2_1 : Counted
 sums_2_1 = record {
   sums = record {
-    ata0 = f64 0x3F4D5EE740000000 ∷ f64 0xBFA2A68000000000 ∷ f64 0xBF64880000000000 ∷ [];
-    ata1 = f64 0xBFA2A68000000000 ∷ f64 0x4028800000000000 ∷ zero64 ∷ [];
-    ata2 = f64 0xBF64880000000000 ∷ zero64 ∷ f64 0x4028800000000000 ∷ [];
+    ata =
+        (f64 0x3F4D5EE740000000 ∷ f64 0xBFA2A68000000000 ∷ f64 0xBF64880000000000 ∷ [])
+        ∷ (f64 0xBFA2A68000000000 ∷ f64 0x4028800000000000 ∷ zero64 ∷ [])
+        ∷ (f64 0xBF64880000000000 ∷ zero64 ∷ f64 0x4028800000000000 ∷ [])
+        ∷ [];
     atb = f64 0x3EBF9DB825C00000 ∷ f64 0xBF50481280000000 ∷ f64 0x3F13419B00000000 ∷ [];
   };
   n = 7;
@@ -246,9 +248,11 @@ view_2_2 = record {
 abbrev sums_2_2 : Counted
 sums_2_2 = record {
   sums = record {
-    ata0 = f64 0x3F4D5EE740000000 ∷ f64 0xBFA2A6EF9E6CE12E ∷ f64 0xBF64219ABDFC4DA8 ∷ [];
-    ata1 = f64 0xBFA2A6EF9E6CE12E ∷ f64 0x4028800000000000 ∷ zero64 ∷ [];
-    ata2 = f64 0xBF64219ABDFC4DA8 ∷ zero64 ∷ f64 0x4028800000000000 ∷ [];
+    ata =
+        (f64 0x3F4D5EE740000000 ∷ f64 0xBFA2A6EF9E6CE12E ∷ f64 0xBF64219ABDFC4DA8 ∷ [])
+        ∷ (f64 0xBFA2A6EF9E6CE12E ∷ f64 0x4028800000000000 ∷ zero64 ∷ [])
+        ∷ (f64 0xBF64219ABDFC4DA8 ∷ zero64 ∷ f64 0x4028800000000000 ∷ [])
+        ∷ [];
     atb = f64 0x3E437125C222FFA0 ∷ f64 0x3E699DBCE7858000 ∷ f64 0x3E6210E424B2A000 ∷ [];
   };
   n = 7;
@@ -283,9 +287,11 @@ view_2_3 = record {
 abbrev sums_2_3 : Counted
 sums_2_3 = record {
   sums = record {
-    ata0 = f64 0x3F4D5EE740000000 ∷ f64 0xBFA2A6EEA7BD1D2C ∷ f64 0xBF64227F487E979A ∷ [];
-    ata1 = f64 0xBFA2A6EEA7BD1D2C ∷ f64 0x4028800000000000 ∷ zero64 ∷ [];
-    ata2 = f64 0xBF64227F487E979A ∷ zero64 ∷ f64 0x4028800000000000 ∷ [];
+    ata =
+        (f64 0x3F4D5EE740000000 ∷ f64 0xBFA2A6EEA7BD1D2C ∷ f64 0xBF64227F487E979A ∷ [])
+        ∷ (f64 0xBFA2A6EEA7BD1D2C ∷ f64 0x4028800000000000 ∷ zero64 ∷ [])
+        ∷ (f64 0xBF64227F487E979A ∷ zero64 ∷ f64 0x4028800000000000 ∷ [])
+        ∷ [];
     atb = f64 0xBDD5AFD4B0657000 ∷ f64 0xBDB964BB58000000 ∷ f64 0xBD607846F0000000 ∷ [];
   };
   n = 7;
@@ -320,9 +326,11 @@ view_2_4 = record {
 abbrev sums_2_4 : Counted
 sums_2_4 = record {
   sums = record {
-    ata0 = f64 0x3F4D5EE740000000 ∷ f64 0xBFA2A6EEA9DB1530 ∷ f64 0xBF64227D526F437E ∷ [];
-    ata1 = f64 0xBFA2A6EEA9DB1530 ∷ f64 0x4028800000000000 ∷ zero64 ∷ [];
-    ata2 = f64 0xBF64227D526F437E ∷ zero64 ∷ f64 0x4028800000000000 ∷ [];
+    ata =
+        (f64 0x3F4D5EE740000000 ∷ f64 0xBFA2A6EEA9DB1530 ∷ f64 0xBF64227D526F437E ∷ [])
+        ∷ (f64 0xBFA2A6EEA9DB1530 ∷ f64 0x4028800000000000 ∷ zero64 ∷ [])
+        ∷ (f64 0xBF64227D526F437E ∷ zero64 ∷ f64 0x4028800000000000 ∷ [])
+        ∷ [];
     atb = f64 0x3D67D2227C180000 ∷ f64 0x3D48F66300000000 ∷ f64 0x3D13060000000000 ∷ [];
   };
   n = 7;
@@ -357,9 +365,11 @@ view_2_5 = record {
 abbrev sums_2_5 : Counted
 sums_2_5 = record {
   sums = record {
-    ata0 = f64 0x3F4D5EE73FFFFFFE ∷ f64 0xBFA2A6EEA9D66EB2 ∷ f64 0xBF64227D56BE17CA ∷ [];
-    ata1 = f64 0xBFA2A6EEA9D66EB2 ∷ f64 0x4028800000000000 ∷ zero64 ∷ [];
-    ata2 = f64 0xBF64227D56BE17CA ∷ zero64 ∷ f64 0x4028800000000000 ∷ [];
+    ata =
+        (f64 0x3F4D5EE73FFFFFFE ∷ f64 0xBFA2A6EEA9D66EB2 ∷ f64 0xBF64227D56BE17CA ∷ [])
+        ∷ (f64 0xBFA2A6EEA9D66EB2 ∷ f64 0x4028800000000000 ∷ zero64 ∷ [])
+        ∷ (f64 0xBF64227D56BE17CA ∷ zero64 ∷ f64 0x4028800000000000 ∷ [])
+        ∷ [];
     atb = f64 0xBCFA299870000000 ∷ f64 0xBCDB9C8000000000 ∷ f64 0xBCA4480000000000 ∷ [];
   };
   n = 7;
@@ -402,7 +412,7 @@ residuals_2 =
     ∷ []
 
 measured_2 : Measured k rows_2 pose_5 (2 ∷ 2 ∷ 1 ∷ 1 ∷ 6 ∷ 6 ∷ 0 ∷ 0 ∷ 3 ∷ 3 ∷ 4 ∷ 4 ∷ 5 ∷ 5 ∷ []) view_2 residuals_2
-    (some (record { median = f64 0x3F21742A1ABE7825; sigma = f64 0x3F10E61536F51F70 }))
+    (Some (record { median = f64 0x3F21742A1ABE7825; sigma = f64 0x3F10E61536F51F70 }))
     (2 ∷ 2 ∷ 1 ∷ 1 ∷ 6 ∷ 6 ∷ 0 ∷ 0 ∷ 3 ∷ 3 ∷ 4 ∷ 4 ∷ []) (f64 0x4004000000000000)
 unfolding view_of residuals statistics clipped adaptive_px arithmetic
 measured_2 = record { view = refl; values = refl; summary = refl; clip = refl; radius = refl }
@@ -475,7 +485,7 @@ residuals_clip_1 =
 
 clip_1 : Clipping k spots directions pose_5 (1 ∷ 1 ∷ 0 ∷ 0 ∷ 2 ∷ 2 ∷ 6 ∷ 6 ∷ 4 ∷ 4 ∷ 3 ∷ 3 ∷ 5 ∷ 5 ∷ []) rows_clip_1 view_2 residuals_clip_1
     (record { median = f64 0x3F21742A1ABE7825; sigma = f64 0x3F10E61536F51F70 })
-    (Kept 6) (1 ∷ 1 ∷ 0 ∷ 0 ∷ 2 ∷ 2 ∷ 6 ∷ 6 ∷ 4 ∷ 4 ∷ 3 ∷ 3 ∷ 5 ∷ 5 ∷ [])
+    (Some 6) (1 ∷ 1 ∷ 0 ∷ 0 ∷ 2 ∷ 2 ∷ 6 ∷ 6 ∷ 4 ∷ 4 ∷ 3 ∷ 3 ∷ 5 ∷ 5 ∷ [])
 unfolding rows view_of residuals statistics mad_clip_matches arithmetic
 clip_1 = record { enough = refl; looked = refl; view = refl; values = refl; summary = refl; clip = refl }
 
@@ -492,9 +502,11 @@ rows_refit_1 =
 abbrev sums_refit_1 : Counted
 sums_refit_1 = record {
   sums = record {
-    ata0 = f64 0x3F4A4A4C80000000 ∷ f64 0xBFA360FDB7CB9419 ∷ f64 0x3F77D4BD9BFF0BC6 ∷ [];
-    ata1 = f64 0xBFA360FDB7CB9419 ∷ f64 0x4027000000000000 ∷ zero64 ∷ [];
-    ata2 = f64 0x3F77D4BD9BFF0BC6 ∷ zero64 ∷ f64 0x4027000000000000 ∷ [];
+    ata =
+        (f64 0x3F4A4A4C80000000 ∷ f64 0xBFA360FDB7CB9419 ∷ f64 0x3F77D4BD9BFF0BC6 ∷ [])
+        ∷ (f64 0xBFA360FDB7CB9419 ∷ f64 0x4027000000000000 ∷ zero64 ∷ [])
+        ∷ (f64 0x3F77D4BD9BFF0BC6 ∷ zero64 ∷ f64 0x4027000000000000 ∷ [])
+        ∷ [];
     atb = f64 0x3E95140BB75F361C ∷ f64 0x3F45A24D940EF0F8 ∷ f64 0x3F16395B33E1FC28 ∷ [];
   };
   n = 6;
@@ -508,7 +520,7 @@ pose_6 = record {
   scale = f64 0x3F50000000000000;
 }
 
-kept_1 : taken (Kept 6) (1 ∷ 1 ∷ 0 ∷ 0 ∷ 2 ∷ 2 ∷ 6 ∷ 6 ∷ 4 ∷ 4 ∷ 3 ∷ 3 ∷ 5 ∷ 5 ∷ [])
+kept_1 : taken (Some 6) (1 ∷ 1 ∷ 0 ∷ 0 ∷ 2 ∷ 2 ∷ 6 ∷ 6 ∷ 4 ∷ 4 ∷ 3 ∷ 3 ∷ 5 ∷ 5 ∷ [])
     (1 ∷ 1 ∷ 0 ∷ 0 ∷ 2 ∷ 2 ∷ 6 ∷ 6 ∷ 4 ∷ 4 ∷ 3 ∷ 3 ∷ 5 ∷ 5 ∷ [])
     ≡ 1 ∷ 1 ∷ 0 ∷ 0 ∷ 2 ∷ 2 ∷ 6 ∷ 6 ∷ 4 ∷ 4 ∷ 3 ∷ 3 ∷ []
 unfolding taken
@@ -544,7 +556,7 @@ residuals_clip_2 =
 
 clip_2 : Clipping k spots directions pose_6 (1 ∷ 1 ∷ 0 ∷ 0 ∷ 2 ∷ 2 ∷ 6 ∷ 6 ∷ 4 ∷ 4 ∷ 3 ∷ 3 ∷ []) rows_refit_1 view_clip_2 residuals_clip_2
     (record { median = f64 0x3F1CA75A5FEA2E7E; sigma = f64 0x3F0C8B35D055FA4E })
-    Unchanged (1 ∷ 1 ∷ 0 ∷ 0 ∷ 2 ∷ 2 ∷ 6 ∷ 6 ∷ 4 ∷ 4 ∷ 3 ∷ 3 ∷ [])
+    None (1 ∷ 1 ∷ 0 ∷ 0 ∷ 2 ∷ 2 ∷ 6 ∷ 6 ∷ 4 ∷ 4 ∷ 3 ∷ 3 ∷ [])
 unfolding rows view_of residuals statistics mad_clip_matches arithmetic
 clip_2 = record { enough = refl; looked = refl; view = refl; values = refl; summary = refl; clip = refl }
 
@@ -555,9 +567,11 @@ looked_last = refl
 abbrev normal : Counted
 normal = record {
   sums = record {
-    ata0 = f64 0x3F4A4A4C7FFFFFFE ∷ f64 0xBFA363B87DA9232F ∷ f64 0x3F7744F345D0B60F ∷ [];
-    ata1 = f64 0xBFA363B87DA9232F ∷ f64 0x4027000000000000 ∷ zero64 ∷ [];
-    ata2 = f64 0x3F7744F345D0B60F ∷ zero64 ∷ f64 0x4027000000000000 ∷ [];
+    ata =
+        (f64 0x3F4A4A4C7FFFFFFE ∷ f64 0xBFA363B87DA9232F ∷ f64 0x3F7744F345D0B60F ∷ [])
+        ∷ (f64 0xBFA363B87DA9232F ∷ f64 0x4027000000000000 ∷ zero64 ∷ [])
+        ∷ (f64 0x3F7744F345D0B60F ∷ zero64 ∷ f64 0x4027000000000000 ∷ [])
+        ∷ [];
     atb = zero64 ∷ zero64 ∷ zero64 ∷ [];
   };
   n = 6;

@@ -1,16 +1,17 @@
 -- More pairs within the radius than the candidate lists hold: refusal 13.
 -- Written by tools/rows/rows.py: the values are those of its model, and the check computes every equation. Assumes nothing.
-use Rattle.std.specs.Prelude.{◌≡◌, refl, true, false, List, [], ◌∷◌, replicate, Float}
+use Rattle.std.specs.Prelude.{◌≡◌, refl, true, false, None, List, [], ◌∷◌, replicate, Float}
 use Rattle.rounding.specs.Arith.{f64, zero64, one64}
 use Rattle.project.specs.Camera.{boresight, camera_rows}
 use Rattle.panel.specs.Points.{points_of}
-use Rattle.fit.specs.Rows.{Row, rows, View, view_of}
+use Rattle.fit.specs.Rows.{Row, rows, view_of}
 use Rattle.residuals.specs.Residual.{residuals}
 use Rattle.fit.specs.declared.Pose.{Pose}
+use Rattle.fit.specs.declared.View.{View}
 use Rattle.entry.specs.Arguments.{Call}
 use Rattle.entry.specs.Fixed.{Fixed}
 use Rattle.passes.specs.Fit.{fit_passes}
-use Rattle.wcs_refine.specs.Clip.{none, statistics, clipped}
+use Rattle.wcs_refine.specs.Clip.{statistics, clipped}
 use Rattle.wcs_refine.specs.Associate.{adaptive_px}
 use Rattle.query.specs.Query.{empty, axis32, least_cos, scanned, Prediction, predictions, pruned}
 use Rattle.wcs_refine.specs.Round.{State, refuse, associated, compared, refused, loop, round}
@@ -126,7 +127,7 @@ abbrev residuals_1 : List Float
 residuals_1 = []
 
 measured_1 : Measured k rows_1 pose_0 ([]) view_1 residuals_1
-    none
+    None
     ([]) (f64 0x403EB851E0000000)
 unfolding view_of residuals statistics clipped adaptive_px arithmetic
 measured_1 = record { view = refl; values = refl; summary = refl; clip = refl; radius = refl }

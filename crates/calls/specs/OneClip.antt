@@ -1,20 +1,21 @@
 -- A clip: one of six starting matches lies too far off, and five are left.
 -- Written by tools/rows/rows.py: the values are those of its model, and the check computes every equation. Assumes nothing.
-use Rattle.std.specs.Prelude.{◌≡◌, refl, true, false, List, [], ◌∷◌, replicate, Float}
+use Rattle.std.specs.Prelude.{◌≡◌, refl, true, false, Some, List, [], ◌∷◌, replicate, Float}
 use Rattle.rounding.specs.Arith.{f64, zero64, one64}
 use Rattle.project.specs.Camera.{boresight, camera_rows}
 use Rattle.panel.specs.Points.{points_of}
-use Rattle.fit.specs.Rows.{Row, row_of, rows, View, view_of}
+use Rattle.fit.specs.Rows.{Row, row_of, rows, view_of}
 use Rattle.fit.specs.Normal.{no_matches, with_rows, normal_matrix, solved_sums}
 use Rattle.residuals.specs.Residual.{residuals, in_front}
 use Rattle.solve.specs.Covariance.{covariance_from_normal}
 use Rattle.project.specs.Project.{cd_from_theta}
 use Rattle.fit.specs.declared.Pose.{Pose}
+use Rattle.fit.specs.declared.View.{View}
 use Rattle.fit.specs.declared.Counted.{Counted}
 use Rattle.entry.specs.Arguments.{Call}
 use Rattle.entry.specs.Fixed.{Fixed}
 use Rattle.passes.specs.Fit.{fit_passes, moved, sound, still}
-use Rattle.wcs_refine.specs.Clip.{some, statistics, clipped}
+use Rattle.wcs_refine.specs.Clip.{statistics, clipped}
 use Rattle.wcs_refine.specs.Associate.{adaptive_px}
 use Rattle.query.specs.Query.{empty, full, axis32, least_cos, scanned, Prediction, predictions, pruned}
 use Rattle.wcs_refine.specs.Round.{State, done, associated, compared, ended, loop, round}
@@ -145,9 +146,11 @@ view_1_1 = record {
 abbrev sums_1_1 : Counted
 sums_1_1 = record {
   sums = record {
-    ata0 = f64 0x3FC34C3210950000 ∷ f64 0x3FFB938718000000 ∷ f64 0xC0289A0371000000 ∷ [];
-    ata1 = f64 0x3FFB938718000000 ∷ f64 0x4090190100000000 ∷ zero64 ∷ [];
-    ata2 = f64 0xC0289A0371000000 ∷ zero64 ∷ f64 0x4090190100000000 ∷ [];
+    ata =
+        (f64 0x3FC34C3210950000 ∷ f64 0x3FFB938718000000 ∷ f64 0xC0289A0371000000 ∷ [])
+        ∷ (f64 0x3FFB938718000000 ∷ f64 0x4090190100000000 ∷ zero64 ∷ [])
+        ∷ (f64 0xC0289A0371000000 ∷ zero64 ∷ f64 0x4090190100000000 ∷ [])
+        ∷ [];
     atb = f64 0x3F703132562326A0 ∷ f64 0xBF7B607C78400000 ∷ f64 0xBFD51A35F2E44000 ∷ [];
   };
   n = 6;
@@ -182,9 +185,11 @@ view_1_2 = record {
 abbrev sums_1_2 : Counted
 sums_1_2 = record {
   sums = record {
-    ata0 = f64 0x3FC34C3210950000 ∷ f64 0x40007612B1182BF0 ∷ f64 0xC0287FAA17D1BBB3 ∷ [];
-    ata1 = f64 0x40007612B1182BF0 ∷ f64 0x4090190100000000 ∷ zero64 ∷ [];
-    ata2 = f64 0xC0287FAA17D1BBB3 ∷ zero64 ∷ f64 0x4090190100000000 ∷ [];
+    ata =
+        (f64 0x3FC34C3210950000 ∷ f64 0x40007612B1182BF0 ∷ f64 0xC0287FAA17D1BBB3 ∷ [])
+        ∷ (f64 0x40007612B1182BF0 ∷ f64 0x4090190100000000 ∷ zero64 ∷ [])
+        ∷ (f64 0xC0287FAA17D1BBB3 ∷ zero64 ∷ f64 0x4090190100000000 ∷ [])
+        ∷ [];
     atb = f64 0xBEB3234279AD0802 ∷ f64 0xBF729BBBFC2C7117 ∷ f64 0xBF463BAEAD592429 ∷ [];
   };
   n = 6;
@@ -219,9 +224,11 @@ view_1_3 = record {
 abbrev sums_1_3 : Counted
 sums_1_3 = record {
   sums = record {
-    ata0 = f64 0x3FC34C321094FFFF ∷ f64 0x400072BEBC8A23AA ∷ f64 0xC0287FCDDB44D1B9 ∷ [];
-    ata1 = f64 0x400072BEBC8A23AA ∷ f64 0x4090190100000000 ∷ zero64 ∷ [];
-    ata2 = f64 0xC0287FCDDB44D1B9 ∷ zero64 ∷ f64 0x4090190100000000 ∷ [];
+    ata =
+        (f64 0x3FC34C321094FFFF ∷ f64 0x400072BEBC8A23AA ∷ f64 0xC0287FCDDB44D1B9 ∷ [])
+        ∷ (f64 0x400072BEBC8A23AA ∷ f64 0x4090190100000000 ∷ zero64 ∷ [])
+        ∷ (f64 0xC0287FCDDB44D1B9 ∷ zero64 ∷ f64 0x4090190100000000 ∷ [])
+        ∷ [];
     atb = f64 0x3E071C192AB29A00 ∷ f64 0x3EA2963B82A10400 ∷ f64 0x3E78F623AFEF7200 ∷ [];
   };
   n = 6;
@@ -256,9 +263,11 @@ view_1_4 = record {
 abbrev sums_1_4 : Counted
 sums_1_4 = record {
   sums = record {
-    ata0 = f64 0x3FC34C3210950000 ∷ f64 0x400072C300F3FF0B ∷ f64 0xC0287FCDAD6E0DF2 ∷ [];
-    ata1 = f64 0x400072C300F3FF0B ∷ f64 0x4090190100000000 ∷ zero64 ∷ [];
-    ata2 = f64 0xC0287FCDAD6E0DF2 ∷ zero64 ∷ f64 0x4090190100000000 ∷ [];
+    ata =
+        (f64 0x3FC34C3210950000 ∷ f64 0x400072C300F3FF0B ∷ f64 0xC0287FCDAD6E0DF2 ∷ [])
+        ∷ (f64 0x400072C300F3FF0B ∷ f64 0x4090190100000000 ∷ zero64 ∷ [])
+        ∷ (f64 0xC0287FCDAD6E0DF2 ∷ zero64 ∷ f64 0x4090190100000000 ∷ [])
+        ∷ [];
     atb = f64 0xBD8D8A026C100000 ∷ f64 0xBDD6C07E0A800000 ∷ f64 0xBDB1DA1B0F600000 ∷ [];
   };
   n = 6;
@@ -293,9 +302,11 @@ view_1_5 = record {
 abbrev sums_1_5 : Counted
 sums_1_5 = record {
   sums = record {
-    ata0 = f64 0x3FC34C3210950000 ∷ f64 0x400072C2FB7470E0 ∷ f64 0xC0287FCDADA91E02 ∷ [];
-    ata1 = f64 0x400072C2FB7470E0 ∷ f64 0x4090190100000000 ∷ zero64 ∷ [];
-    ata2 = f64 0xC0287FCDADA91E02 ∷ zero64 ∷ f64 0x4090190100000000 ∷ [];
+    ata =
+        (f64 0x3FC34C3210950000 ∷ f64 0x400072C2FB7470E0 ∷ f64 0xC0287FCDADA91E02 ∷ [])
+        ∷ (f64 0x400072C2FB7470E0 ∷ f64 0x4090190100000000 ∷ zero64 ∷ [])
+        ∷ (f64 0xC0287FCDADA91E02 ∷ zero64 ∷ f64 0x4090190100000000 ∷ [])
+        ∷ [];
     atb = f64 0x3D130763E1000000 ∷ f64 0x3CFEB8D000000000 ∷ f64 0x3D0DB91600000000 ∷ [];
   };
   n = 6;
@@ -337,7 +348,7 @@ residuals_1 =
     ∷ []
 
 measured_1 : Measured k rows_1 pose_5 (0 ∷ 0 ∷ 1 ∷ 1 ∷ 2 ∷ 2 ∷ 3 ∷ 3 ∷ 4 ∷ 4 ∷ 5 ∷ 5 ∷ []) view_1 residuals_1
-    (some (record { median = f64 0x3F20866916272658; sigma = f64 0x3F1573FA95155F83 }))
+    (Some (record { median = f64 0x3F20866916272658; sigma = f64 0x3F1573FA95155F83 }))
     (0 ∷ 0 ∷ 1 ∷ 1 ∷ 2 ∷ 2 ∷ 3 ∷ 3 ∷ 5 ∷ 5 ∷ []) (f64 0x4004000000000000)
 unfolding view_of residuals statistics clipped adaptive_px arithmetic
 measured_1 = record { view = refl; values = refl; summary = refl; clip = refl; radius = refl }
@@ -413,9 +424,11 @@ residuals_last =
 abbrev normal : Counted
 normal = record {
   sums = record {
-    ata0 = f64 0x3FC34C303B000001 ∷ f64 0x400072C79A4A3294 ∷ f64 0xC0287FCF34CB53EF ∷ [];
-    ata1 = f64 0x400072C79A4A3294 ∷ f64 0x4090190000000000 ∷ zero64 ∷ [];
-    ata2 = f64 0xC0287FCF34CB53EF ∷ zero64 ∷ f64 0x4090190000000000 ∷ [];
+    ata =
+        (f64 0x3FC34C303B000001 ∷ f64 0x400072C79A4A3294 ∷ f64 0xC0287FCF34CB53EF ∷ [])
+        ∷ (f64 0x400072C79A4A3294 ∷ f64 0x4090190000000000 ∷ zero64 ∷ [])
+        ∷ (f64 0xC0287FCF34CB53EF ∷ zero64 ∷ f64 0x4090190000000000 ∷ [])
+        ∷ [];
     atb = zero64 ∷ zero64 ∷ zero64 ∷ [];
   };
   n = 5;

@@ -1,20 +1,21 @@
 -- Two rounds: the matches of the first turn the camera past the margin, and the second queries anew.
 -- Written by tools/rows/rows.py: the values are those of its model, and the check computes every equation. Assumes nothing.
-use Rattle.std.specs.Prelude.{◌≡◌, refl, true, false, List, [], ◌∷◌, replicate, Float}
+use Rattle.std.specs.Prelude.{◌≡◌, refl, true, false, None, List, [], ◌∷◌, replicate, Float}
 use Rattle.rounding.specs.Arith.{f64, zero64, one64}
 use Rattle.project.specs.Camera.{boresight, camera_rows}
 use Rattle.panel.specs.Points.{points_of}
-use Rattle.fit.specs.Rows.{Row, row_of, rows, View, view_of}
+use Rattle.fit.specs.Rows.{Row, row_of, rows, view_of}
 use Rattle.fit.specs.Normal.{no_matches, with_rows, normal_matrix, solved_sums}
 use Rattle.residuals.specs.Residual.{residuals, in_front}
 use Rattle.solve.specs.Covariance.{covariance_from_normal}
 use Rattle.project.specs.Project.{cd_from_theta}
 use Rattle.fit.specs.declared.Pose.{Pose}
+use Rattle.fit.specs.declared.View.{View}
 use Rattle.fit.specs.declared.Counted.{Counted}
 use Rattle.entry.specs.Arguments.{Call}
 use Rattle.entry.specs.Fixed.{Fixed}
 use Rattle.passes.specs.Fit.{fit_passes, moved, sound, still}
-use Rattle.wcs_refine.specs.Clip.{none, statistics, clipped}
+use Rattle.wcs_refine.specs.Clip.{statistics, clipped}
 use Rattle.wcs_refine.specs.Associate.{adaptive_px}
 use Rattle.query.specs.Query.{empty, full, axis32, least_cos, scanned, drifted, Prediction, predictions, pruned}
 use Rattle.wcs_refine.specs.Round.{State, go, done, associated, compared, ended, loop, round}
@@ -131,7 +132,7 @@ abbrev residuals_1 : List Float
 residuals_1 = []
 
 measured_1 : Measured k rows_1 pose_0 ([]) view_1 residuals_1
-    none
+    None
     ([]) (f64 0x3FF0624DE0000000)
 unfolding view_of residuals statistics clipped adaptive_px arithmetic
 measured_1 = record { view = refl; values = refl; summary = refl; clip = refl; radius = refl }
@@ -196,9 +197,11 @@ pose_1 = record {
 abbrev sums_2_1 : Counted
 sums_2_1 = record {
   sums = record {
-    ata0 = f64 0x3F4D862140000000 ∷ f64 0x3F9CA40000000000 ∷ f64 0x3F8D440000000000 ∷ [];
-    ata1 = f64 0x3F9CA40000000000 ∷ f64 0x4021000000000000 ∷ zero64 ∷ [];
-    ata2 = f64 0x3F8D440000000000 ∷ zero64 ∷ f64 0x4021000000000000 ∷ [];
+    ata =
+        (f64 0x3F4D862140000000 ∷ f64 0x3F9CA40000000000 ∷ f64 0x3F8D440000000000 ∷ [])
+        ∷ (f64 0x3F9CA40000000000 ∷ f64 0x4021000000000000 ∷ zero64 ∷ [])
+        ∷ (f64 0x3F8D440000000000 ∷ zero64 ∷ f64 0x4021000000000000 ∷ [])
+        ∷ [];
     atb = f64 0x3F0D74BC37F00000 ∷ f64 0x3F5C04DC40000000 ∷ f64 0x3F4FC39780000000 ∷ [];
   };
   n = 4;
@@ -233,9 +236,11 @@ view_2_2 = record {
 abbrev sums_2_2 : Counted
 sums_2_2 = record {
   sums = record {
-    ata0 = f64 0x3F4D862140000000 ∷ f64 0x3F9BAC6C1F962F5B ∷ f64 0x3F9063701FA501A6 ∷ [];
-    ata1 = f64 0x3F9BAC6C1F962F5B ∷ f64 0x4021000000000000 ∷ zero64 ∷ [];
-    ata2 = f64 0x3F9063701FA501A6 ∷ zero64 ∷ f64 0x4021000000000000 ∷ [];
+    ata =
+        (f64 0x3F4D862140000000 ∷ f64 0x3F9BAC6C1F962F5B ∷ f64 0x3F9063701FA501A6 ∷ [])
+        ∷ (f64 0x3F9BAC6C1F962F5B ∷ f64 0x4021000000000000 ∷ zero64 ∷ [])
+        ∷ (f64 0x3F9063701FA501A6 ∷ zero64 ∷ f64 0x4021000000000000 ∷ [])
+        ∷ [];
     atb = f64 0x3E522516A3B6FE3A ∷ f64 0x3EFE48155C542400 ∷ f64 0xBF0C2D27FF48D3DF ∷ [];
   };
   n = 4;
@@ -270,9 +275,11 @@ view_2_3 = record {
 abbrev sums_2_3 : Counted
 sums_2_3 = record {
   sums = record {
-    ata0 = f64 0x3F4D86213FFFFFFE ∷ f64 0x3F9BAC482D27575A ∷ f64 0x3F9063ACD24AE0E0 ∷ [];
-    ata1 = f64 0x3F9BAC482D27575A ∷ f64 0x4021000000000000 ∷ zero64 ∷ [];
-    ata2 = f64 0x3F9063ACD24AE0E0 ∷ zero64 ∷ f64 0x4021000000000000 ∷ [];
+    ata =
+        (f64 0x3F4D86213FFFFFFE ∷ f64 0x3F9BAC482D27575A ∷ f64 0x3F9063ACD24AE0E0 ∷ [])
+        ∷ (f64 0x3F9BAC482D27575A ∷ f64 0x4021000000000000 ∷ zero64 ∷ [])
+        ∷ (f64 0x3F9063ACD24AE0E0 ∷ zero64 ∷ f64 0x4021000000000000 ∷ [])
+        ∷ [];
     atb = f64 0xBD89F9F771214000 ∷ f64 0xBDFC59230C800000 ∷ f64 0x3E29582AD8605C00 ∷ [];
   };
   n = 4;
@@ -307,9 +314,11 @@ view_2_4 = record {
 abbrev sums_2_4 : Counted
 sums_2_4 = record {
   sums = record {
-    ata0 = f64 0x3F4D862140000000 ∷ f64 0x3F9BAC482FACC6EB ∷ f64 0x3F9063ACCE0913ED ∷ [];
-    ata1 = f64 0x3F9BAC482FACC6EB ∷ f64 0x4021000000000000 ∷ zero64 ∷ [];
-    ata2 = f64 0x3F9063ACCE0913ED ∷ zero64 ∷ f64 0x4021000000000000 ∷ [];
+    ata =
+        (f64 0x3F4D862140000000 ∷ f64 0x3F9BAC482FACC6EB ∷ f64 0x3F9063ACCE0913ED ∷ [])
+        ∷ (f64 0x3F9BAC482FACC6EB ∷ f64 0x4021000000000000 ∷ zero64 ∷ [])
+        ∷ (f64 0x3F9063ACCE0913ED ∷ zero64 ∷ f64 0x4021000000000000 ∷ [])
+        ∷ [];
     atb = f64 0x3CCCF6E5EC000000 ∷ f64 0xBD25C66000000000 ∷ f64 0xBD4ACB3E31000000 ∷ [];
   };
   n = 4;
@@ -343,7 +352,7 @@ abbrev residuals_2 : List Float
 residuals_2 = f64 0x3EC3C4BB5221C04B ∷ f64 0x3EBE9FC1179DBA8E ∷ f64 0x3EA85A1ABBFA3466 ∷ f64 0x3ED0D41BAF950EDD ∷ []
 
 measured_2 : Measured k rows_2 pose_4 (1 ∷ 1 ∷ 0 ∷ 0 ∷ 3 ∷ 3 ∷ 2 ∷ 2 ∷ []) view_2 residuals_2
-    none
+    None
     (1 ∷ 1 ∷ 0 ∷ 0 ∷ 3 ∷ 3 ∷ 2 ∷ 2 ∷ []) (f64 0x3FF0624DE0000000)
 unfolding view_of residuals statistics clipped adaptive_px arithmetic
 measured_2 = record { view = refl; values = refl; summary = refl; clip = refl; radius = refl }
@@ -403,9 +412,11 @@ looked_last = refl
 abbrev normal : Counted
 normal = record {
   sums = record {
-    ata0 = f64 0x3F4D862140000000 ∷ f64 0x3F9BAC482FACA968 ∷ f64 0x3F9063ACCE0945C1 ∷ [];
-    ata1 = f64 0x3F9BAC482FACA968 ∷ f64 0x4021000000000000 ∷ zero64 ∷ [];
-    ata2 = f64 0x3F9063ACCE0945C1 ∷ zero64 ∷ f64 0x4021000000000000 ∷ [];
+    ata =
+        (f64 0x3F4D862140000000 ∷ f64 0x3F9BAC482FACA968 ∷ f64 0x3F9063ACCE0945C1 ∷ [])
+        ∷ (f64 0x3F9BAC482FACA968 ∷ f64 0x4021000000000000 ∷ zero64 ∷ [])
+        ∷ (f64 0x3F9063ACCE0945C1 ∷ zero64 ∷ f64 0x4021000000000000 ∷ [])
+        ∷ [];
     atb = zero64 ∷ zero64 ∷ zero64 ∷ [];
   };
   n = 4;

@@ -1,6 +1,6 @@
 -- The steps of a refinement call, over plain variables: from equations on one pass, one search, one closing, each small enough to be computed,
 -- to the outcome of the whole call. Assumes nothing.
-use Rattle.std.specs.Prelude.{◌≡◌, Bool, false, ltb, length}
+use Rattle.std.specs.Prelude.{◌≡◌, Bool, false, Option, Some, None, ltb, length}
 use Rattle.std.proofs.Math.Path.{refl}
 use Rattle.std.proofs.Common.{◌∙◌}
 use Rattle.std.proofs.Math.Bool.{true, cond}
@@ -11,21 +11,20 @@ use Rattle.rounding.specs.Arith.{zero64}
 use Rattle.stats.specs.declared.MedianSigma.{MedianSigma}
 use Rattle.project.specs.Camera.{boresight, camera_rows}
 use Rattle.panel.specs.Points.{points_of}
-use Rattle.fit.specs.Rows.{Row, rows, View, view_of}
+use Rattle.fit.specs.Rows.{Row, rows, view_of}
 use Rattle.fit.specs.Normal.{no_matches, with_rows, normal_matrix, solved_sums, ls_fit_once}
 use Rattle.residuals.specs.Residual.{residuals, in_front, mad_clip_matches}
 use Rattle.solve.specs.Covariance.{covariance_from_normal}
 use Rattle.project.specs.Project.{cd_from_theta}
 use Rattle.fit.specs.declared.Pose.{Pose}
 use Rattle.fit.specs.declared.Counted.{Counted}
-use Rattle.residuals.specs.declared.Clip.{Clip}
-use Rattle.residuals.specs.declared.Clip.TheVariants.{Kept, Unchanged}
+use Rattle.fit.specs.declared.View.{View}
 use Rattle.solve.specs.declared.Solution.TheVariants.{Solved}
 use Rattle.entry.specs.Arguments.{Call}
 use Rattle.entry.specs.Check.{refusal}
 use Rattle.entry.specs.Fixed.{Fixed, fixed}
 use Rattle.passes.specs.Fit.{Passes, fit_passes, passed, goes_on, moved, sound, still}
-use Rattle.wcs_refine.specs.Clip.{Statistics, some, statistics, clipped, taken}
+use Rattle.wcs_refine.specs.Clip.{statistics, clipped, taken}
 use Rattle.wcs_refine.specs.Associate.{adaptive_px}
 use Rattle.query.specs.Query.{empty, full, query, axis32, least_cos, scanned, drifted, Prediction, predictions, pruned}
 use Rattle.wcs_refine.specs.Round.{State, Next, go, done, refuse, Found, Round, associated, compared, fresh, reused, searched, rest, fitted, round}
@@ -89,7 +88,7 @@ no_pass n cut rs p h =
 -- ---- the search
 
 -- Residuals at the pose p, their statistics, the matches after the clip, and the radius of the search.
-pub record Measured (k : Fixed) (rs : List Row) (p : Pose) (ms : List ℕ) (w : View) (vs : List Float) (st : Statistics)
+pub record Measured (k : Fixed) (rs : List Row) (p : Pose) (ms : List ℕ) (w : View) (vs : List Float) (st : Option MedianSigma)
     (left : List ℕ) (r : Float) : Type 0 where
   pub view : view_of p k.cut ≡ w
   pub values : residuals w rs ≡ vs
@@ -178,7 +177,7 @@ module _ (k : Fixed) (spots directions : List Float) where
 
   -- The passes are fine, and the search comes to x, with y comparisons.
   pub whole_round :
-      (s : State) {rs : List Row} {p : Pose} {n : ℕ} {w : View} {vs : List Float} {st : Statistics} {ms : List ℕ}
+      (s : State) {rs : List Row} {p : Pose} {n : ℕ} {w : View} {vs : List Float} {st : Option MedianSigma} {ms : List ℕ}
       {r : Float}
       {x : Next} {q : List (List ℕ)} {y : ℕ} → rows spots directions s.matches ≡ rs
       → fit_passes 10 k.cut rs s.pose ≡ passes_of p n true →
@@ -248,12 +247,12 @@ module _ (k : Fixed) (spots directions : List Float) where
 -- A clip of the matches ms at the pose p: what it answers, and the matches afterwards.
 pub record Clipping (k : Fixed) (spots directions : List Float) (p : Pose) (ms : List ℕ) (rs : List Row) (w : View)
     (vs : List Float)
-    (st : MedianSigma) (c : Clip) (new : List ℕ) : Type 0 where
+    (st : MedianSigma) (c : Option ℕ) (new : List ℕ) : Type 0 where
   pub enough : ltb (length ms / 2) 6 ≡ false
   pub looked : rows spots directions ms ≡ rs
   pub view : view_of p k.cut ≡ w
   pub values : residuals w rs ≡ vs
-  pub summary : statistics vs ≡ some st
+  pub summary : statistics vs ≡ Some st
   pub clip : mad_clip_matches vs ms st.median st.sigma ≡ record { answer = c; matches = new }
 
 -- The fit on the matches that a clip has kept.
@@ -269,7 +268,7 @@ pub record Refit (k : Fixed) (spots directions : List Float) (p : Pose) (kept : 
 
 module _ {k : Fixed} {spots directions : List Float} {p : Pose} {ms : List ℕ} {rs : List Row} {w : View}
     {vs : List Float} {st : MedianSigma} where
-  one_clip : {c : Clip} {new : List ℕ} (n : ℕ) → Clipping k spots directions p ms rs w vs st c new →
+  one_clip : {c : Option ℕ} {new : List ℕ} (n : ℕ) → Clipping k spots directions p ms rs w vs st c new →
       cleaned k spots directions (suc n) p ms
       ≡ recleaned k spots directions p ms c new (λ q kept. cleaned k spots directions n q kept)
   unfolding cleaned cleaned_by
@@ -283,7 +282,7 @@ module _ {k : Fixed} {spots directions : List Float} {p : Pose} {ms : List ℕ} 
       ∙ (λ i. recleaned k spots directions p ms (h.clip i).answer (h.clip i).matches after)
 
   -- Nothing is clipped; or a fit follows on what is kept, and then the next clip.
-  pub last_clip : {new : List ℕ} (n : ℕ) → Clipping k spots directions p ms rs w vs st Unchanged new →
+  pub last_clip : {new : List ℕ} (n : ℕ) → Clipping k spots directions p ms rs w vs st None new →
       cleaned k spots directions (suc n) p ms ≡ fine p ms
   unfolding recleaned
   last_clip n h = one_clip n h
@@ -291,7 +290,7 @@ module _ {k : Fixed} {spots directions : List Float} {p : Pose} {ms : List ℕ} 
   pub next_clip :
       {j : ℕ} {new kept : List ℕ} {rs' : List Row} {w' : View} {t : Counted} {a b c : Float} {q : Pose} {z : Closed}
       (n : ℕ) →
-      Clipping k spots directions p ms rs w vs st (Kept j) new → taken (Kept j) ms new ≡ kept
+      Clipping k spots directions p ms rs w vs st (Some j) new → taken (Some j) ms new ≡ kept
       → Refit k spots directions p kept rs' w' t a b c q →
       cleaned k spots directions n q kept ≡ z → cleaned k spots directions (suc n) p ms ≡ z
   unfolding recleaned refitted ls_fit_once if_sound
@@ -315,7 +314,7 @@ pub record Reported (k : Fixed) (p : Pose) (rs : List Row) (w : View) (vs : List
   pub normal : normal_matrix w rs ≡ t
   pub matrix : cd_from_theta p.theta k.scale k.mirror ≡ cd
   pub mean : root_mean sum vs ≡ rms
-  pub spread : covariance_from_normal (t.sums.ata0 ∷ t.sums.ata1 ∷ t.sums.ata2 ∷ []) sum t.n ≡ cov
+  pub spread : covariance_from_normal t.sums.ata sum t.n ≡ cov
 
 -- A report by its parts.
 abbrev pub report_of : Pose → List (List Float) → Float → List (List Float) → List ℕ → Report
@@ -328,7 +327,7 @@ unfolding reported
 whole_report {k} {p} {rs} {w} {vs} {sum} {t} {cd} {rms} {cov} ms h =
     let by : List Float → Float → Counted → Report = λ v s m.
     report_of p (cd_from_theta p.theta k.scale k.mirror) (root_mean s v)
-    (covariance_from_normal (m.sums.ata0 ∷ m.sums.ata1 ∷ m.sums.ata2 ∷ []) s m.n) ms in
+    (covariance_from_normal m.sums.ata s m.n) ms in
     (λ i. by (in_front (residuals (h.view i) rs)) (sum_squares (in_front (residuals (h.view i) rs)) zero64)
     (normal_matrix (h.view i) rs))
     ∙ (λ i. by (h.values i) (sum_squares (h.values i) zero64) (h.normal i))

@@ -1,6 +1,6 @@
 -- 01, "Cases, the starred ones proved": a record for each starred line, and one theorem, `cases`, that all of them hold. The check computes every
 -- row from the written meanings. Assumes nothing.
-use Rattle.std.specs.Prelude.{◌≡◌, refl, true, false, List, [], ◌∷◌, ℕ, pos, negsuc, Float}
+use Rattle.std.specs.Prelude.{◌≡◌, refl, true, false, Some, None, Err, List, [], ◌∷◌, ℕ, pos, negsuc, Float}
 use Rattle.std.specs.Float.{nan, fin, binary64}
 use Rattle.std.specs.Float.Ieee.{to_bits}
 use Rattle.rounding.specs.Arith.{f64, zero64, one64, ◌⊗◌}
@@ -14,9 +14,8 @@ use Rattle.matching.specs.Greedy.{matches_of, assigned, clashes}
 use Rattle.solve.specs.Solve.{solve3x3, solved_from, substituted, divides, if_finite, solution_x, solution_y, solution_z, eliminated, reduced, minus_from, swapped, usable, pivot_of, best_from, better, beside}
 use Rattle.residuals.specs.Residual.{mad_clip_matches, kept, kept_from, keeps, threshold_of, Clipped}
 use Rattle.solve.specs.declared.Solution.TheVariants.{Solved, Failed}
-use Rattle.residuals.specs.declared.Clip.TheVariants.{Kept, Unchanged}
-use Rattle.record.specs.Number.{written, number}
-use Rattle.record.specs.declared.Numbered.TheVariants.{Got, Wrong}
+use Rattle.refusal.specs.declared.Refusal.TheVariants.{WrongNumber}
+use Rattle.record.specs.Number.{written, number, numbered}
 
 -- Whole numbers as floats.
 abbrev pub f1 : Float
@@ -43,10 +42,10 @@ f10 = f64 0x4024000000000000
 -- "127 is 7F; 128 is 80 01; 80 00 is refused (3)."
 pub record Numbers : Type 0 where
   pub one_byte : written 127 ≡ 0x7F ∷ []
-  pub one_byte_read : number 32 (0x7F ∷ []) ≡ Got 127 1
+  pub one_byte_read : number 32 (0x7F ∷ []) ≡ numbered 127 1
   pub two_bytes : written 128 ≡ 0x80 ∷ 0x01 ∷ []
-  pub two_bytes_read : number 32 (0x80 ∷ 0x01 ∷ []) ≡ Got 128 2
-  pub not_shortest : number 32 (0x80 ∷ 0x00 ∷ []) ≡ Wrong
+  pub two_bytes_read : number 32 (0x80 ∷ 0x01 ∷ []) ≡ numbered 128 2
+  pub not_shortest : number 32 (0x80 ∷ 0x00 ∷ []) ≡ Err WrongNumber
 
 -- "Root of 2 is 3FF6A09E667F3BCD, of −0 is −0, of 2^-1074 is 2^-537; of −1, NaN."
 pub record Roots : Type 0 where
@@ -103,13 +102,13 @@ clipped rs = mad_clip_matches rs six (median_mad_sigma rs).median (median_mad_si
 -- With the outlier first the five that are kept move to the front, and what stood last stays there.
 pub record Clips : Type 0 where
   pub outlier_statistics : median_mad_sigma outlier ≡ record { median = f1; sigma = zero64 }
-  pub outlier_clipped : clipped outlier ≡ record { answer = Kept 5; matches = six }
+  pub outlier_clipped : clipped outlier ≡ record { answer = Some 5; matches = six }
   pub first_clipped : clipped outlier_first ≡ record {
-    answer = Kept 5;
+    answer = Some 5;
     matches = 1 ∷ 11 ∷ 2 ∷ 12 ∷ 3 ∷ 13 ∷ 4 ∷ 14 ∷ 5 ∷ 15 ∷ 5 ∷ 15 ∷ [];
   }
   pub rising_statistics : median_mad_sigma rising ≡ record { median = f4; sigma = mad_scale ⊗ f2 }
-  pub rising_kept : clipped rising ≡ record { answer = Unchanged; matches = six }
+  pub rising_kept : clipped rising ≡ record { answer = None; matches = six }
 
 -- Two spots, a prediction, and 0.5.
 abbrev spots : List Float

@@ -1,16 +1,12 @@
--- The checks stage by stage, what passing them says, and the rotation row by row. Assumes nothing.
+-- The checks stage by stage, and what passing them says. Assumes nothing.
 use mathlib.Core.Path.{◌≡◌, ◌∙◌, sym, refl}
 use mathlib.Core.Bool.{Bool, true, false, cond, ◌&&◌}
-use mathlib.Core.List.{List}
 use Prim.Native.Nat.{ℕ, zero, suc, ◌/◌, ◌≤◌, ◌<◌}
 use native.Mathlib.Omega.{arith}
 use borrow.Author.Tests.{leb-true}
 use lib.Dec.{leb}
-use lib.Ieee.{Float}
-use Rattle.solve.specs.Vector.{row}
 use Rattle.panel.specs.Spots.{spot_numbers}
-use Rattle.entry.specs.Check.{divides, few, counts_refused, rotation_fits, or_else}
-use Rattle.entry.specs.Entry.{row_fits}
+use Rattle.entry.specs.Check.{divides, few, counts_refused, or_else}
 
 -- ---- one stage after another
 
@@ -25,10 +21,6 @@ pub goes : (a b : ℕ) {x r : ℕ} → x ≡ a → x ≡ 0 → r ≡ b → r ≡
 unfolding or_else
 goes zero b e z f = f
 goes (suc a) b e z f = absurd (omega arith)
-
--- two in turn
-pub in_turn : (a b : ℕ) {x y r : ℕ} → x ≡ a → y ≡ b → r ≡ or_else x y → r ≡ or_else a b
-in_turn a b e f h = h ∙ (λ i. or_else (e i) (f i))
 
 -- neither of two does
 pub both_pass : (a b : ℕ) → or_else a b ≡ 0 → (a ≡ 0) × (b ≡ 0)
@@ -79,24 +71,3 @@ pub counted_bounds : (spots matches directions rounds : ℕ) {x : ℕ} → x ≡
 counted_bounds spots matches directions rounds f z =
     let b = few_bounds (spots / spot_numbers) (matches / 2) (directions / 3) rounds (counts_passed spots matches directions rounds (sym f ∙ z)).1 in
     (b.0, b.1, b.2)
-
--- ---- the rotation, row by row
-
-module _ (m : List (List Float)) {x : Bool} (ex : x ≡ row_fits (row m 0)) where
-  pub first_out : x ≡ false → rotation_fits m ≡ false
-  unfolding row_fits rotation_fits
-  first_out p = let a : row_fits (row m 0) ≡ false = sym ex ∙ p in rw a
-
-  pub second_out : x ≡ true → {y : Bool} → y ≡ row_fits (row m 1) → y ≡ false → rotation_fits m ≡ false
-  unfolding row_fits rotation_fits
-  second_out p ey q =
-      let a : row_fits (row m 0) ≡ true = sym ex ∙ p in
-      let b : row_fits (row m 1) ≡ false = sym ey ∙ q in
-      rw (a, b)
-
-  pub third : x ≡ true → {y z : Bool} → y ≡ row_fits (row m 1) → y ≡ true → z ≡ row_fits (row m 2) → rotation_fits m ≡ z
-  unfolding row_fits rotation_fits
-  third p ey q ez =
-      let a : row_fits (row m 0) ≡ true = sym ex ∙ p in
-      let b : row_fits (row m 1) ≡ true = sym ey ∙ q in
-      rw (a, b) (sym ez)

@@ -1,14 +1,9 @@
--- The code's side of the entry: the test of a spot, a row of the rotation, and what the settings mean. Definitions only. Assumes nothing.
-use Rattle.std.specs.Prelude.{Bool, cond, ◌&&◌, List, Float}
+-- The code's side of the entry: a row of the rotation, and what the settings mean. Definitions only. Assumes nothing.
+use Rattle.std.specs.Prelude.{Bool, ◌&&◌, List, Float}
 use Rattle.solve.specs.Vector.{at}
-use Rattle.panel.specs.declared.Spot.{Spot}
-use Rattle.entry.specs.Check.{lawful_place, lawful_weight, lawful_component}
+use Rattle.entry.specs.Check.{lawful_component}
 use Rattle.entry.specs.Fixed.{Fixed}
 use Rattle.entry.specs.declared.Settings.{Settings}
-
--- 17 of a spot, or else 9: the code makes both tests of the spots by one loop.
-abbrev pub spot_test : Bool → Spot → Bool
-spot_test weight s = cond weight (lawful_weight s) (lawful_place s)
 
 -- 9, of a row of the rotation: the code looks at the rotation row by row.
 unfoldable pub row_fits : List Float → Bool

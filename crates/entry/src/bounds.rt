@@ -1,174 +1,185 @@
 // The bounds of refusals 6 to 9, 14 and 17, each a constant of the type that it bounds. Ranges include both ends; neither a NaN nor an infinity lies in one.
-ghost use Rattle.std.specs.Prelude.{◌≡◌, leb};
+ghost use Rattle.std.specs.Prelude.{◌≡◌, leb, Bool, Float};
 ghost use Rattle.rounding.specs.Arith.{one64};
-ghost use Rattle.entry.specs.Check.{between, least, least_cut, most_cut, least_weight, most_weight, lawful_coordinate, lawful_component, most_spots, most_matches, most_directions, most_rounds};
+ghost use Rattle.entry.specs.Check.{between, least, least_cut, most_cut, least_weight, most_weight, far_spot, long_component};
+ghost use Rattle.std.specs.Float.Ieee.{neg};
 
-// How many spots a call has.
-#[derive(Drop)]
-pub struct Spots(pub usize);
+use rounding::widen;
 
-impl Spots {
-    pub const MOST: usize = 4096;
+// How many there are of something, at most MOST.
+#[derive(Clone, Copy)]
+pub struct Count<const MOST: usize> {
+    pub count: usize,
+}
 
-    pub fn is_lawful(self) -> bool
-        ensures { result ≡ leb self.0 most_spots }
+impl<const MOST: usize> Count<MOST> {
+    pub const MOST: usize = MOST;
+
+    pub fn of(count: usize) -> Self
+        ensures { result.count ≡ count }
     {
-        self.0 <= Spots::MOST
+        Count { count }
+    }
+
+    pub fn is_lawful(&self) -> bool
+        ensures { result ≡ leb self.now.count MOST }
+    {
+        self.count <= MOST
     }
 }
 
-// How many starting matches a call has.
-#[derive(Drop)]
-pub struct Matches(pub usize);
+// How many spots a call has,
+pub type Spots = Count<4096>;
 
-impl Matches {
-    pub const MOST: usize = 4096;
+// starting matches,
+pub type Matches = Count<4096>;
 
-    pub fn is_lawful(self) -> bool
-        ensures { result ≡ leb self.0 most_matches }
+// directions,
+pub type Directions = Count<65536>;
+
+// and how many rounds it may make.
+pub type Rounds = Count<64>;
+
+// A number of a call, and the range that it has to lie in. An `f32` is widened, which changes no value.
+pub trait Bounded {
+    ghost LEAST: { Float };
+
+    const LEAST: f64;
+
+    ghost MOST: { Float };
+
+    const MOST: f64;
+
+    ghost value: { Self → Float };
+
+    fn value(&self) -> f64
+        ensures { result ≡ value self.now };
+
+    #[tactic(auto, unfolding(crate::specs::Check::between))]
+    fn is_lawful(&self) -> bool
+        ensures { result ≡ between LEAST (value self.now) MOST }
     {
-        self.0 <= Matches::MOST
-    }
-}
-
-// How many directions a call has.
-#[derive(Drop)]
-pub struct Directions(pub usize);
-
-impl Directions {
-    pub const MOST: usize = 65536;
-
-    pub fn is_lawful(self) -> bool
-        ensures { result ≡ leb self.0 most_directions }
-    {
-        self.0 <= Directions::MOST
-    }
-}
-
-// How many rounds a call may make.
-#[derive(Drop)]
-pub struct Rounds(pub usize);
-
-impl Rounds {
-    pub const MOST: usize = 64;
-
-    pub fn is_lawful(self) -> bool
-        ensures { result ≡ leb self.0 most_rounds }
-    {
-        self.0 <= Rounds::MOST
+        let x = self.value();
+        Self::LEAST <= x && x <= Self::MOST
     }
 }
 
 // The pixel scale, in radians per pixel: 2^-30 to 1.
-#[derive(Drop)]
+#[derive(Clone, Copy)]
 pub struct Scale(pub f64);
 
-impl Scale {
-    pub const LEAST: f64 = 0.000000000931322574615478515625;
+impl Bounded for Scale {
+    ghost LEAST = { least };
 
-    pub const MOST: f64 = 1.0;
+    const LEAST: f64 = 0.000000000931322574615478515625;
 
-    pub fn is_lawful(self) -> bool
-        ensures { result ≡ between least self.0 one64 }
-    {
-        if Scale::LEAST <= self.0 {
-            return self.0 <= Scale::MOST;
-        }
-        false
+    ghost MOST = { one64 };
+
+    const MOST: f64 = 1.0;
+
+    ghost value = { λ s. s.0 };
+
+    fn value(&self) -> f64 {
+        self.0
     }
 }
 
 // The match radius, in radians: 2^-30 to 1.
-#[derive(Drop)]
+#[derive(Clone, Copy)]
 pub struct Radius(pub f32);
 
-impl Radius {
-    pub const LEAST: f32 = 0.000000000931322574615478515625;
+impl Bounded for Radius {
+    ghost LEAST = { least };
 
-    pub const MOST: f32 = 1.0;
+    const LEAST: f64 = 0.000000000931322574615478515625;
 
-    pub fn is_lawful(self) -> bool
-        ensures { result ≡ between least self.0 one64 }
-    {
-        if Radius::LEAST <= self.0 {
-            return self.0 <= Radius::MOST;
-        }
-        false
+    ghost MOST = { one64 };
+
+    const MOST: f64 = 1.0;
+
+    ghost value = { λ s. s.0 };
+
+    fn value(&self) -> f64 {
+        widen(self.0)
     }
 }
 
 // The plane cut: a direction whose denominator is at most this is dropped. 1e-12 to 0.5.
-#[derive(Drop)]
+#[derive(Clone, Copy)]
 pub struct Cut(pub f64);
 
-impl Cut {
-    pub const LEAST: f64 = 0.000000000001;
+impl Bounded for Cut {
+    ghost LEAST = { least_cut };
 
-    pub const MOST: f64 = 0.5;
+    const LEAST: f64 = 0.000000000001;
 
-    pub fn is_lawful(self) -> bool
-        ensures { result ≡ between least_cut self.0 most_cut }
-    {
-        if Cut::LEAST <= self.0 {
-            return self.0 <= Cut::MOST;
-        }
-        false
+    ghost MOST = { most_cut };
+
+    const MOST: f64 = 0.5;
+
+    ghost value = { λ c. c.0 };
+
+    fn value(&self) -> f64 {
+        self.0
     }
 }
 
 // A coordinate of a spot, in pixels: within 2^20 of zero.
-#[derive(Drop)]
+#[derive(Clone, Copy)]
 pub struct Coordinate(pub f64);
 
-impl Coordinate {
-    pub const LEAST: f64 = -1048576.0;
+impl Bounded for Coordinate {
+    ghost LEAST = { neg far_spot };
 
-    pub const MOST: f64 = 1048576.0;
+    const LEAST: f64 = -1048576.0;
 
-    pub fn is_lawful(self) -> bool
-        ensures { result ≡ lawful_coordinate self.0 }
-    {
-        if Coordinate::LEAST <= self.0 {
-            return self.0 <= Coordinate::MOST;
-        }
-        false
+    ghost MOST = { far_spot };
+
+    const MOST: f64 = 1048576.0;
+
+    ghost value = { λ x. x.0 };
+
+    fn value(&self) -> f64 {
+        self.0
     }
 }
 
 // A spot's weight: 2^-10 to 2^10.
-#[derive(Drop)]
+#[derive(Clone, Copy)]
 pub struct Weight(pub f64);
 
-impl Weight {
-    pub const LEAST: f64 = 0.0009765625;
+impl Bounded for Weight {
+    ghost LEAST = { least_weight };
 
-    pub const MOST: f64 = 1024.0;
+    const LEAST: f64 = 0.0009765625;
 
-    pub fn is_lawful(self) -> bool
-        ensures { result ≡ between least_weight self.0 most_weight }
-    {
-        if Weight::LEAST <= self.0 {
-            return self.0 <= Weight::MOST;
-        }
-        false
+    ghost MOST = { most_weight };
+
+    const MOST: f64 = 1024.0;
+
+    ghost value = { λ w. w.0 };
+
+    fn value(&self) -> f64 {
+        self.0
     }
 }
 
 // A component of a direction, or an entry of the rotation: within 2 of zero.
-#[derive(Drop)]
+#[derive(Clone, Copy)]
 pub struct Component(pub f32);
 
-impl Component {
-    pub const LEAST: f32 = -2.0;
+impl Bounded for Component {
+    ghost LEAST = { neg long_component };
 
-    pub const MOST: f32 = 2.0;
+    const LEAST: f64 = -2.0;
 
-    pub fn is_lawful(self) -> bool
-        ensures { result ≡ lawful_component self.0 }
-    {
-        if Component::LEAST <= self.0 {
-            return self.0 <= Component::MOST;
-        }
-        false
+    ghost MOST = { long_component };
+
+    const MOST: f64 = 2.0;
+
+    ghost value = { λ x. x.0 };
+
+    fn value(&self) -> f64 {
+        widen(self.0)
     }
 }

@@ -2,9 +2,10 @@
 ghost use Rattle.std.specs.Prelude.{◌≡◌, length, replicate};
 ghost use Rattle.rounding.specs.Arith.{zero64};
 
-use lists::{clear_floats, clear_numbers};
+use lists::clear;
 
 // The working lists and the candidate lists of a call, to their ends.
+// Stays (form of 01): the lists of a call are lent flat, each by itself.
 pub fn clear_all(
     numbers: &mut [usize],
     floats: &mut [f64],
@@ -20,8 +21,8 @@ pub fn clear_all(
     let f = floats.len();
     let d = distances.len();
     let i = indices.len();
-    clear_numbers(numbers, n);
-    clear_floats(floats, f);
-    clear_floats(distances, d);
-    clear_numbers(indices, i);
+    clear(numbers, n);
+    clear(floats, f);
+    clear(distances, d);
+    clear(indices, i);
 }

@@ -9,26 +9,24 @@ ghost use Rattle.entry.specs.Entry.{fixed_of};
 use crate::Settings;
 use angles::{asin, atan2, cos, sin};
 use fit::Pose;
-use lists::smaller;
 use panel::{SPOT_NUMBERS, spot_at};
 use project::dot;
-use rounding::{clamp, max, sqrt64, widen};
+use rounding::{clamp, max, sqrt, widen};
 
 // The greatest distance of the first n spots, or 0 if there are none: the root of the greatest square.
 pub fn farthest_of(spots: &[f64], n: usize) -> f64
     ensures { result ≡ farthest spots.now 0 n zero64 }
 {
     let mut square: f64 = 0.0;
-    let mut i: usize = 0;
-    while i < n {
+    for i in 0..n {
         let s = spot_at(spots, i);
         square = max(square, s.px * s.px + s.py * s.py);
-        i += 1;
     }
-    sqrt64(square)
+    sqrt(square)
 }
 
 // What the rounds read beside spots, directions and their state. Of the directions and of the candidate lists only the lengths count.
+// Stays (form of 01): the numbers of a call come each by itself, in the call's own order.
 pub fn settings_of(
     spots: &[f64],
     directions: usize,
@@ -44,7 +42,7 @@ pub fn settings_of(
 {
     // Those beyond the matching limit count too.
     let far = farthest_of(spots, spots.len() / SPOT_NUMBERS);
-    let capacity = smaller(distances / 2, indices / 4);
+    let capacity = (distances / 2).min(indices / 4);
     let wide = widen(radius);
     Settings {
         scale,

@@ -7,7 +7,8 @@ mod head; // head.rt: what a run computes once from its arguments
 mod clearing; // clearing.rt: the lent lists as a call leaves them
 
 pub use bounds::{
-    Component, Coordinate, Cut, Directions, Matches, Radius, Rounds, Scale, Spots, Weight,
+    Bounded, Component, Coordinate, Count, Cut, Directions, Matches, Radius, Rounds, Scale, Spots,
+    Weight,
 };
 pub use clearing::clear_all;
 pub use head::{

@@ -1,139 +1,119 @@
 // The checks on entry, refusals 5 to 11, 14 and 17, in stages by what they look at.
-ghost use Rattle.std.specs.Prelude.{◌≡◌, ◌/◌, ◌≤◌, max, length};
-ghost use Rattle.entry.specs.Check.{lawful_component, every_spot, every, divides, few, rotation_fits, numbers_fit, named, long};
-ghost use Rattle.entry.specs.Check.{counts_refused, measures_refused, numbers_refused, weights_refused, names_refused, or_else, refusal_of};
-ghost use Rattle.entry.specs.Entry.{spot_test, row_fits};
+ghost use Rattle.std.specs.Prelude.{◌≡◌, Bool, ◌/◌, ◌≤◌, length};
+ghost use Rattle.panel.specs.declared.Spot.{Spot};
+ghost use Rattle.panel.specs.Spots.{spot_numbers};
+ghost use Rattle.refusal.specs.Number.{number_given};
+ghost use Rattle.entry.specs.Check.{lawful_component, lawful_place, lawful_weight, every_spot, every, divides, few, rotation_fits, numbers_fit, weights_fit, named, long};
+ghost use Rattle.entry.specs.Check.{counts_refused, measures_refused, numbers_refused, weights_refused, names_refused, refusal_of};
+ghost use Rattle.entry.specs.Entry.{row_fits};
 
 use crate::bounds::{
-    Component, Coordinate, Cut, Directions, Matches, Radius, Rounds, Scale, Spots, Weight,
+    Bounded, Component, Coordinate, Cut, Directions, Matches, Radius, Rounds, Scale, Spots, Weight,
 };
-use lists::smaller;
 use panel::{SPOT_NUMBERS, Spot, spot_at};
-
-pub(crate) fn larger(a: usize, b: usize) -> usize
-    ensures { result ≡ max a b }
-{
-    if a <= b { b } else { a }
-}
+use refusal::Refusal;
 
 // 5, from the lists' lengths.
+#[tactic(auto, unfolding(crate::specs::Check::divides))]
 fn divides(spots: usize, matches: usize, directions: usize) -> bool
     ensures { result ≡ divides spots matches directions }
 {
-    if spots % SPOT_NUMBERS == 0 {
-        if matches % 2 == 0 {
-            return directions % 3 == 0;
-        }
-    }
-    false
+    spots % SPOT_NUMBERS == 0 && matches % 2 == 0 && directions % 3 == 0
 }
 
 // 6, from the counts.
+#[tactic(auto, unfolding(crate::specs::Check::few))]
 fn are_few(spots: usize, matches: usize, directions: usize, rounds: usize) -> bool
     ensures { result ≡ few spots matches directions rounds }
 {
-    if Spots(spots).is_lawful() {
-        if Matches(matches).is_lawful() {
-            if Directions(directions).is_lawful() {
-                return Rounds(rounds).is_lawful();
-            }
-        }
-    }
-    false
+    Spots::of(spots).is_lawful()
+        && Matches::of(matches).is_lawful()
+        && Directions::of(directions).is_lawful()
+        && Rounds::of(rounds).is_lawful()
 }
 
-// Whether a spot's weight is within its range, or else both of its coordinates.
-fn spot_fits(s: Spot, weight: bool) -> bool
-    ensures { result ≡ spot_test weight s }
+// The test of every spot of a list.
+fn every_spot<F: Fn(Spot) -> bool>(spots: &[f64], test: F) -> bool
+    requires { F.IsAlwaysCallable test }
+    ensures { (p : Spot → Bool) → ((s : Spot) (b : Bool) → F.post test s b → b ≡ p s)
+        → result ≡ every_spot p spots.now 0 (length spots.now / spot_numbers) }
 {
-    if weight {
-        return Weight(s.weight).is_lawful();
-    }
-    if Coordinate(s.px).is_lawful() {
-        return Coordinate(s.py).is_lawful();
-    }
-    false
-}
-
-// The same of the first n spots.
-fn spots_fit(spots: &[f64], n: usize, weight: bool) -> bool
-    ensures { result ≡ every_spot (spot_test weight) spots.now 0 n }
-{
-    let mut i: usize = 0;
-    while i < n {
-        if !spot_fits(spot_at(spots, i), weight) {
+    for i in 0..spots.len() / SPOT_NUMBERS {
+        if !test(spot_at(spots, i)) {
             return false;
         }
-        i += 1;
     }
     true
 }
 
-fn components_fit(directions: &[f32]) -> bool
-    ensures { result ≡ every lawful_component directions.now }
+fn are_lawful(components: &[f32]) -> bool
+    ensures { result ≡ every lawful_component components.now }
 {
-    let mut i: usize = 0;
-    while i < directions.len() {
-        if !Component(directions[i]).is_lawful() {
+    for &x in components {
+        if !Component(x).is_lawful() {
             return false;
         }
-        i += 1;
     }
     true
 }
 
+#[tactic(auto, unfolding(crate::specs::Entry::row_fits))]
 fn row_fits(row: [f32; 3]) -> bool
     ensures { result ≡ row_fits row }
 {
-    if Component(row[0]).is_lawful() {
-        if Component(row[1]).is_lawful() {
-            return Component(row[2]).is_lawful();
-        }
-    }
-    false
+    Component(row[0]).is_lawful() && Component(row[1]).is_lawful() && Component(row[2]).is_lawful()
 }
 
+#[tactic(auto, unfolding(crate::specs::Check::rotation_fits, crate::specs::Entry::row_fits))]
 fn rotation_fits(rotation: [[f32; 3]; 3]) -> bool
     ensures { result ≡ rotation_fits rotation }
 {
-    if row_fits(rotation[0]) {
-        if row_fits(rotation[1]) {
-            return row_fits(rotation[2]);
-        }
-    }
-    false
+    row_fits(rotation[0]) && row_fits(rotation[1]) && row_fits(rotation[2])
+}
+
+fn place_fits(s: Spot) -> bool
+    ensures { result ≡ lawful_place s }
+{
+    Coordinate(s.px).is_lawful() && Coordinate(s.py).is_lawful()
+}
+
+fn weight_fits(s: Spot) -> bool
+    ensures { result ≡ lawful_weight s }
+{
+    Weight(s.weight).is_lawful()
 }
 
 // 9, every number but the weights.
+// Stays (no plainer): each check takes the lists that it reads, so that its contract is about no others.
+#[tactic(auto, unfolding(crate::specs::Check::numbers_fit))]
 fn numbers_fit(spots: &[f64], directions: &[f32], rotation: [[f32; 3]; 3]) -> bool
     ensures { result ≡ numbers_fit spots.now directions.now rotation }
 {
-    if spots_fit(spots, spots.len() / SPOT_NUMBERS, false) {
-        if components_fit(directions) {
-            return rotation_fits(rotation);
-        }
-    }
-    false
+    every_spot(spots, place_fits) && are_lawful(directions) && rotation_fits(rotation)
+}
+
+// 17.
+#[tactic(auto, unfolding(crate::specs::Check::weights_fit))]
+fn weights_fit(spots: &[f64]) -> bool
+    ensures { result ≡ weights_fit spots.now }
+{
+    every_spot(spots, weight_fits)
 }
 
 // 10, every starting match: a spot, then a direction.
 fn are_named(matches: &[usize], spots: usize, directions: usize) -> bool
     ensures { result ≡ named spots directions matches.now }
 {
-    let mut i: usize = 0;
-    while i < matches.len() / 2 {
-        if spots <= matches[2 * i] {
+    for &[spot, direction] in matches.as_chunks::<2>().0 {
+        if spots <= spot || directions <= direction {
             return false;
         }
-        if directions <= matches[2 * i + 1] {
-            return false;
-        }
-        i += 1;
     }
     true
 }
 
 // 11, from the counts, which are few, and the lent lists' lengths.
+#[tactic(auto, unfolding(crate::specs::Check::long))]
 fn are_long(
     spots: usize,
     matches: usize,
@@ -147,66 +127,65 @@ fn are_long(
     ensures { result ≡ long spots matches directions limit numbers floats result_list }
 {
     let work = 16 * (spots + matches + directions);
-    if numbers < work {
-        return false;
-    }
-    if floats < work {
-        return false;
-    }
-    let most = larger(matches, smaller(spots, limit));
-    2 * most <= result_list
+    work <= numbers && work <= floats && 2 * matches.max(spots.min(limit)) <= result_list
 }
 
 // 5 and 6, from the lists' lengths.
-fn counts(spots: usize, matches: usize, directions: usize, rounds: usize) -> usize
-    ensures { result ≡ counts_refused spots matches directions rounds }
+#[tactic(auto, unfolding(crate::specs::Check::counts_refused))]
+fn counts(spots: usize, matches: usize, directions: usize, rounds: usize) -> Result<(), Refusal>
+    ensures { number_given result ≡ counts_refused spots matches directions rounds }
 {
     if !divides(spots, matches, directions) {
-        return 5;
+        return Err(Refusal::Uneven);
     }
-    if are_few(spots / SPOT_NUMBERS, matches / 2, directions / 3, rounds) {
-        return 0;
+    if !are_few(spots / SPOT_NUMBERS, matches / 2, directions / 3, rounds) {
+        return Err(Refusal::TooMany);
     }
-    6
+    Ok(())
 }
 
 // 7, 8 and 14.
-fn measures(scale: f64, radius: f32, cut: f64) -> usize
-    ensures { result ≡ measures_refused scale radius cut }
+#[tactic(auto, unfolding(crate::specs::Check::measures_refused, crate::specs::Check::scale_fits, crate::specs::Check::radius_fits, crate::specs::Check::cut_fits))]
+fn measures(scale: f64, radius: f32, cut: f64) -> Result<(), Refusal>
+    ensures { number_given result ≡ measures_refused scale radius cut }
 {
     if !Scale(scale).is_lawful() {
-        return 7;
+        return Err(Refusal::Scale);
     }
     if !Radius(radius).is_lawful() {
-        return 8;
+        return Err(Refusal::Radius);
     }
-    if Cut(cut).is_lawful() {
-        return 0;
+    if !Cut(cut).is_lawful() {
+        return Err(Refusal::Cut);
     }
-    14
+    Ok(())
 }
 
 // 9.
-fn numerals(spots: &[f64], directions: &[f32], rotation: [[f32; 3]; 3]) -> usize
-    ensures { result ≡ numbers_refused spots.now directions.now rotation }
+// Stays (no plainer): as `numbers_fit`, whose lists it takes.
+#[tactic(auto, unfolding(crate::specs::Check::numbers_refused))]
+fn numerals(spots: &[f64], directions: &[f32], rotation: [[f32; 3]; 3]) -> Result<(), Refusal>
+    ensures { number_given result ≡ numbers_refused spots.now directions.now rotation }
 {
-    if numbers_fit(spots, directions, rotation) {
-        return 0;
+    if !numbers_fit(spots, directions, rotation) {
+        return Err(Refusal::Coordinate);
     }
-    9
+    Ok(())
 }
 
 // 17.
-fn weights(spots: &[f64]) -> usize
-    ensures { result ≡ weights_refused spots.now }
+#[tactic(auto, unfolding(crate::specs::Check::weights_refused))]
+fn weights(spots: &[f64]) -> Result<(), Refusal>
+    ensures { number_given result ≡ weights_refused spots.now }
 {
-    if spots_fit(spots, spots.len() / SPOT_NUMBERS, true) {
-        return 0;
+    if !weights_fit(spots) {
+        return Err(Refusal::Weight);
     }
-    17
+    Ok(())
 }
 
 // 10 and 11, from the counts, which are few.
+#[tactic(auto, unfolding(crate::specs::Check::names_refused))]
 fn names(
     matches: &[usize],
     spots: usize,
@@ -215,39 +194,24 @@ fn names(
     numbers: usize,
     floats: usize,
     result_list: usize,
-) -> usize
+) -> Result<(), Refusal>
     requires { (spots ≤ 4096) × (length matches.now / 2 ≤ 4096) × (directions ≤ 65536) }
-    ensures { result ≡ names_refused matches.now spots directions limit numbers floats result_list }
+    ensures { number_given result ≡ names_refused matches.now spots directions limit numbers floats result_list }
 {
     if !are_named(matches, spots, directions) {
-        return 10;
+        return Err(Refusal::UnknownMatch);
     }
-    if !are_long(
-        spots,
-        matches.len() / 2,
-        directions,
-        limit,
-        numbers,
-        floats,
-        result_list,
-    ) {
-        return 11;
+    let m = matches.len() / 2;
+    if are_long(spots, m, directions, limit, numbers, floats, result_list) {
+        return Ok(());
     }
-    0
+    Err(Refusal::ShortList)
 }
 
-// What the first of two stages refuses with, or else the second.
-fn or_else(first: usize, second: usize) -> usize
-    ensures { result ≡ or_else first second }
-{
-    if first != 0 {
-        return first;
-    }
-    second
-}
-
-// The number of the first check that fails, or 0. A call with too many of something ends at the counts; of one that passes them every check is
-// made, and the first that fails answers. Of the lists of numbers, floats and results only the lengths count.
+// The first check that fails. Of the lists of numbers, floats and results only the lengths count.
+// A function by itself: as a part of the call, what a refusal answers is made ready for each component that is looked at.
+// Stays (form of 01): the lists and numbers of a call come flat, each by itself, in the call's own order.
+#[inline(never)]
 pub fn refusal_of(
     spots: &[f64],
     matches: &[usize],
@@ -261,19 +225,16 @@ pub fn refusal_of(
     numbers: usize,
     floats: usize,
     result_list: usize,
-) -> usize
-    ensures { result
+) -> Result<(), Refusal>
+    ensures { number_given result
         ≡ refusal_of spots.now matches.now directions.now rotation scale radius cut
         limit rounds numbers floats result_list }
 {
-    let by_counts = counts(spots.len(), matches.len(), directions.len(), rounds);
-    if by_counts != 0 {
-        return by_counts;
-    }
-    let by_measures = measures(scale, radius, cut);
-    let by_numbers = numerals(spots, directions, rotation);
-    let by_weights = weights(spots);
-    let by_names = names(
+    counts(spots.len(), matches.len(), directions.len(), rounds)?;
+    measures(scale, radius, cut)?;
+    numerals(spots, directions, rotation)?;
+    weights(spots)?;
+    names(
         matches,
         spots.len() / SPOT_NUMBERS,
         directions.len() / 3,
@@ -281,9 +242,5 @@ pub fn refusal_of(
         numbers,
         floats,
         result_list,
-    );
-    or_else(
-        by_measures,
-        or_else(by_numbers, or_else(by_weights, by_names)),
     )
 }

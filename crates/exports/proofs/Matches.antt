@@ -3,36 +3,38 @@ use Rattle.std.proofs.Common.{◌≡◌, ℕ, Bool, true, false, cond, ltb, List
 use lib.Ieee.{Float}
 use Rattle.pairs.specs.Pairs.{pairs}
 use Rattle.pairs.specs.Candidates.{capacity}
-use Rattle.matching.specs.Answer.{number_of, count_of}
+use Rattle.matching.specs.Answer.{count_of}
 use Rattle.matching.specs.Merge.{not_after}
 use Rattle.matching.specs.Comparisons.{comparisons}
 use Rattle.matching.specs.Greedy.{Outcome, marks, matches_of, needed, placed, overfull, greedy_unique_matches}
 use Rattle.matching.specs.Meaning.{Frame}
-use Rattle.matching.specs.declared.Matched.{Matched}
-use Rattle.matching.specs.declared.Matched.TheVariants.{Matches, TooMany, Short}
+use Rattle.std.specs.Prelude.{Result, Ok, Err}
+use Rattle.refusal.specs.declared.Refusal.{Refusal}
+use Rattle.refusal.specs.declared.Refusal.TheVariants.{ShortList}
+use Rattle.refusal.specs.Number.{number_given}
+use Rattle.refusal.proofs.Passing.{has_number}
 use Rattle.matching.specs.Meant.{HandedBack}
 use Rattle.matching.proofs.Calls.{call_meant}
 use Rattle.exports.specs.Matches.{ExportedMatchesMeant}
 
 -- an answer whose number is 0 is one of so many matches
-matched : (a : Matched) → 0 ≡ number_of a → (n : ℕ) × (a ≡ Matches n) × (count_of a ≡ n)
-matched (Matches n) h = (n, refl, refl)
-matched TooMany h = absurd (omega (arith, h))
-matched Short h = absurd (omega (arith, h))
+matched : (a : Result ℕ Refusal) → 0 ≡ number_given a → (n : ℕ) × (a ≡ Ok n) × (count_of a ≡ n)
+matched (Ok n) h = (n, refl, refl)
+matched (Err r) h = absurd (has_number r (sym h))
 
 -- a call that answers matches has put all of its pairs in order
 module _ (f : Frame) (distances : List Float) (indices work : List ℕ) where
   abbrev o : Outcome
   o = greedy_unique_matches f.points f.limit f.predicted f.radius_sq distances indices work
 
-  compared : (n : ℕ) → o.answer ≡ Matches n → o.comparisons ≡ comparisons not_after (pairs f.points f.limit f.predicted f.radius_sq)
+  compared : (n : ℕ) → o.answer ≡ Ok n → o.comparisons ≡ comparisons not_after (pairs f.points f.limit f.predicted f.radius_sq)
   unfolding greedy_unique_matches placed overfull
   compared n h =
       by (ltb (length work) (needed f.points f.limit f.predicted))
       (ltb (capacity distances indices) (length (pairs f.points f.limit f.predicted f.radius_sq))) h
     where
       shorter : Outcome
-      shorter = record { answer = Short; comparisons = 0; distances = distances; indices = indices; work = work }
+      shorter = record { answer = Err ShortList; comparisons = 0; distances = distances; indices = indices; work = work }
 
       all : Outcome
       all =
@@ -40,7 +42,7 @@ module _ (f : Frame) (distances : List Float) (indices work : List ℕ) where
           (comparisons not_after (pairs f.points f.limit f.predicted f.radius_sq))
           (matches_of f.points f.limit f.predicted f.radius_sq) distances indices work
 
-      by : (s t : Bool) → (cond s shorter (cond t (overfull distances indices work) all)).answer ≡ Matches n
+      by : (s t : Bool) → (cond s shorter (cond t (overfull distances indices work) all)).answer ≡ Ok n
           → (cond s shorter (cond t (overfull distances indices work) all)).comparisons
           ≡ comparisons not_after (pairs f.points f.limit f.predicted f.radius_sq)
       by true t e = cc

@@ -1,7 +1,8 @@
 -- The median and the matcher as numbers and lists, for callers in C. Definitions only. Assumes nothing.
 use Rattle.std.specs.Prelude.{◌≡◌, ℕ, List, set, Float}
 use Rattle.matching.specs.Greedy.{Outcome}
-use Rattle.matching.specs.Answer.{number_of, count_of}
+use Rattle.matching.specs.Answer.{count_of}
+use Rattle.refusal.specs.Number.{number_given}
 use Rattle.stats.specs.declared.MedianSigma.{MedianSigma}
 
 -- Median and sigma in the first two places of a list, as far as it has them.
@@ -12,7 +13,7 @@ two_places l s = set (set l 0 s.median) 1 s.sigma
 -- list.
 pub record MatchedTo
     (o : Outcome) (r : ℕ) (distances : List Float) (indices work counts_before counts_after : List ℕ) : Type 0 where
-  pub number : r ≡ number_of o.answer
+  pub number : r ≡ number_given o.answer
   pub distances_after : distances ≡ o.distances
   pub indices_after : indices ≡ o.indices
   pub work_after : work ≡ o.work

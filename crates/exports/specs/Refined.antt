@@ -1,10 +1,10 @@
 -- The refinement call as numbers and lists, for callers in C. Definitions only. Assumes nothing.
 use Rattle.std.specs.Prelude.{◌≡◌, ℕ, suc, List, [], ◌∷◌, set, get_or, Float}
 use Rattle.std.specs.Float.{nan}
+use Rattle.solve.specs.Vector.{entry}
 use Rattle.entry.specs.Arguments.{Call, Lent}
 use Rattle.wcs_refine.specs.Call.{outcome}
-use Rattle.wcs_refine.specs.Returned.{returned}
-use Rattle.wcs_refine.specs.declared.WcsRefineResult.{WcsRefineResult}
+use Rattle.wcs_refine.specs.Returned.{Values, returned}
 
 -- Nine entries by rows; a place that the list lacks is no number.
 abbrev pub rows_of : List Float → List (List Float)
@@ -15,18 +15,18 @@ rows_of l =
     ∷ []
 
 -- Matches, rounds, passes, queries, and the most comparisons of a round.
-abbrev pub counts : WcsRefineResult → List ℕ
+abbrev pub counts : Values → List ℕ
 counts r = r.matches ∷ r.rounds ∷ r.passes ∷ r.queries ∷ r.comparisons ∷ []
 
 -- Theta, RA, Dec, scale; the matrix by rows; the error; the covariance by rows.
-abbrev pub values : WcsRefineResult → List Float
+abbrev pub values : Values → List Float
 values r =
     r.pose.theta ∷ r.pose.ra ∷ r.pose.dec ∷ r.pose.scale
-    ∷ get_or r.cd0 0 nan ∷ get_or r.cd0 1 nan ∷ get_or r.cd1 0 nan ∷ get_or r.cd1 1 nan
+    ∷ entry r.cd 0 0 ∷ entry r.cd 0 1 ∷ entry r.cd 1 0 ∷ entry r.cd 1 1
     ∷ r.rmse_rad
-    ∷ get_or r.cov0 0 nan ∷ get_or r.cov0 1 nan ∷ get_or r.cov0 2 nan
-    ∷ get_or r.cov1 0 nan ∷ get_or r.cov1 1 nan ∷ get_or r.cov1 2 nan
-    ∷ get_or r.cov2 0 nan ∷ get_or r.cov2 1 nan ∷ get_or r.cov2 2 nan
+    ∷ entry r.cov 0 0 ∷ entry r.cov 0 1 ∷ entry r.cov 0 2
+    ∷ entry r.cov 1 0 ∷ entry r.cov 1 1 ∷ entry r.cov 1 2
+    ∷ entry r.cov 2 0 ∷ entry r.cov 2 1 ∷ entry r.cov 2 2
     ∷ []
 
 -- Written from place i on, one after another, as far as the list has the places.

@@ -1,24 +1,23 @@
 -- The record reader as numbers and lists, for callers in C. Definitions only. Assumes nothing.
-use Rattle.std.specs.Prelude.{◌≡◌, ℕ, cond, List, [], ◌∷◌, get_or, Float}
-use Rattle.std.specs.Float.{nan}
-use Rattle.record.specs.Header.{Intake}
-use Rattle.record.specs.declared.Header.{Header}
+use Rattle.std.specs.Prelude.{◌≡◌, ℕ, cond, List, [], ◌∷◌, Float}
+use Rattle.solve.specs.Vector.{entry}
+use Rattle.record.specs.Header.{Handed, Intake}
 use Rattle.exports.specs.Refined.{set_from}
 
 -- The counts of spots, matches and directions, the mirror as 1 or 0, the matching limit, the rounds.
-abbrev pub choices : Header → List ℕ
+abbrev pub choices : Handed → List ℕ
 choices h = h.spots ∷ h.matches ∷ h.directions ∷ cond h.mirror 1 0 ∷ h.limit ∷ h.rounds ∷ []
 
 -- The scale, the radius and the plane cut.
-abbrev pub measures : Header → List Float
+abbrev pub measures : Handed → List Float
 measures h = h.scale ∷ h.radius ∷ h.cut ∷ []
 
 -- The rotation by rows.
-abbrev pub entries : Header → List Float
+abbrev pub entries : Handed → List Float
 entries h =
-    get_or h.rot0 0 nan ∷ get_or h.rot0 1 nan ∷ get_or h.rot0 2 nan
-    ∷ get_or h.rot1 0 nan ∷ get_or h.rot1 1 nan ∷ get_or h.rot1 2 nan
-    ∷ get_or h.rot2 0 nan ∷ get_or h.rot2 1 nan ∷ get_or h.rot2 2 nan
+    entry h.rotation 0 0 ∷ entry h.rotation 0 1 ∷ entry h.rotation 0 2
+    ∷ entry h.rotation 1 0 ∷ entry h.rotation 1 1 ∷ entry h.rotation 1 2
+    ∷ entry h.rotation 2 0 ∷ entry h.rotation 2 1 ∷ entry h.rotation 2 2
     ∷ []
 
 -- The number handed back, the lists that the record was read into, and the three lists of the header's values.

@@ -1,87 +1,81 @@
 // The refinement call for C and Rust. A list passes as a pointer and a length; the answer's values go to two lists.
-ghost use Rattle.std.specs.Prelude.{◌≡◌, [], ◌∷◌, set, get_or};
-ghost use Rattle.std.specs.Float.{nan};
-ghost use Rattle.wcs_refine.specs.Returned.{lists, called};
+ghost use Rattle.std.specs.Prelude.{◌≡◌};
+ghost use Rattle.refusal.specs.Number.{number_given};
+ghost use Rattle.wcs_refine.specs.Returned.{lists, called, numbered, handed};
 ghost use Rattle.exports.specs.Refined.{rows_of, counts, values, set_from, RefinedTo};
 
-use crate::places::put_double;
+use crate::places::put_all;
 use fit::Pose;
-use lists::{put_number, single_at};
+use panel::three_at;
+use refusal::{Refusal, number_given};
 use wcs_refine::WcsRefineResult;
 
-// Three entries as a row of the rotation; a place that the list lacks is no number, and refused as such.
-fn row_at(rotation: &[f32], i: usize, j: usize, k: usize) -> [f32; 3]
-    ensures { result ≡ get_or rotation.now i nan ∷ get_or rotation.now j nan
-        ∷ get_or rotation.now k nan ∷ [] }
+// The rotation by rows; a place that the list lacks is no number, and refused as such.
+#[tactic(auto, unfolding(panel::specs::Threes::three_at))]
+fn rotation_of(entries: &[f32]) -> [[f32; 3]; 3]
+    ensures { result ≡ rows_of entries.now }
 {
-    let x = single_at(rotation, i);
-    let y = single_at(rotation, j);
-    let z = single_at(rotation, k);
+    let x = three_at(entries, 0, f32::NAN);
+    let y = three_at(entries, 1, f32::NAN);
+    let z = three_at(entries, 2, f32::NAN);
     [x, y, z]
 }
 
+// Beside the number of a refusal "pose and counts are zero".
+#[tactic(auto, unfolding(wcs_refine::specs::Returned::handed))]
+fn beside_the_number(answer: Result<WcsRefineResult, Refusal>) -> WcsRefineResult
+    ensures { numbered (number_given answer) result ≡ handed answer }
+{
+    match answer {
+        Ok(r) => r,
+        Err(_) => WcsRefineResult {
+            matches: 0,
+            rounds: 0,
+            passes: 0,
+            queries: 0,
+            comparisons: 0,
+            pose: Pose {
+                theta: 0.0,
+                ra: 0.0,
+                dec: 0.0,
+                scale: 0.0,
+            },
+            cd: [[0.0; 2]; 2],
+            rmse_rad: 0.0,
+            cov: [[0.0; 3]; 3],
+        },
+    }
+}
+
 // Matches, rounds, passes, queries, and the most comparisons of a round.
-fn put_counts(l: &mut [usize], r: WcsRefineResult)
-    ensures { l.new ≡ set_from 0 (counts r) l.old }
+fn put_counts(l: &mut [usize], r: &WcsRefineResult)
+    ensures { l.new ≡ set_from 0 (counts (numbered 0 r.now)) l.old }
 {
-    put_number(l, 0, r.matches);
-    put_number(l, 1, r.rounds);
-    put_number(l, 2, r.passes);
-    put_number(l, 3, r.queries);
-    put_number(l, 4, r.comparisons);
+    put_all(
+        l,
+        &[r.matches, r.rounds, r.passes, r.queries, r.comparisons],
+    );
 }
 
-// Theta, RA, Dec, scale: the first four places.
-fn put_pose(l: &mut [f64], p: Pose)
-    ensures { l.new
-        ≡ set (set (set (set l.old 0 p.theta) 1 p.ra) 2 p.dec) 3 p.scale }
-{
-    put_double(l, 0, p.theta);
-    put_double(l, 1, p.ra);
-    put_double(l, 2, p.dec);
-    put_double(l, 3, p.scale);
-}
-
-// A row of the matrix, to two places.
-fn put_two(l: &mut [f64], i: usize, j: usize, v: [f64; 2])
-    ensures { l.new ≡ set (set l.old i (get_or v 0 nan)) j (get_or v 1 nan) }
-{
-    put_double(l, i, v[0]);
-    put_double(l, j, v[1]);
-}
-
-// A row of the covariance, to three places.
-fn put_three(l: &mut [f64], i: usize, j: usize, k: usize, v: [f64; 3])
-    ensures { l.new
-        ≡ set (set (set l.old i (get_or v 0 nan)) j (get_or v 1 nan)) k (get_or v 2 nan) }
-{
-    put_double(l, i, v[0]);
-    put_double(l, j, v[1]);
-    put_double(l, k, v[2]);
-}
-
-// Theta, RA, Dec, scale; the matrix by rows; the error; the covariance by rows.
-fn put_values(l: &mut [f64], r: WcsRefineResult)
-    ensures { l.new ≡ set_from 0 (values r) l.old }
+// The pose, the matrix, the error and the covariance.
+fn put_values(l: &mut [f64], r: &WcsRefineResult)
+    ensures { l.new ≡ set_from 0 (values (numbered 0 r.now)) l.old }
 {
     let p = r.pose;
-    let cd0 = r.cd0;
-    let cd1 = r.cd1;
-    let cov0 = r.cov0;
-    let cov1 = r.cov1;
-    let cov2 = r.cov2;
-    put_pose(l, p);
-    put_two(l, 4, 5, cd0);
-    put_two(l, 6, 7, cd1);
-    put_double(l, 8, r.rmse_rad);
-    put_three(l, 9, 10, 11, cov0);
-    put_three(l, 12, 13, 14, cov1);
-    put_three(l, 15, 16, 17, cov2);
+    let [[a, b], [c, d]] = r.cd;
+    let [[e, f, g], [h, i, j], [k, m, n]] = r.cov;
+    put_all(
+        l,
+        &[
+            p.theta, p.ra, p.dec, p.scale, a, b, c, d, r.rmse_rad, e, f, g, h, i, j, k, m, n,
+        ],
+    );
 }
 
 // The number of the refusal, or 0. `spots` has x, y and weight of each, `rotation` nine entries, by rows. `counts` takes matches, rounds, passes,
 // queries and the most comparisons of a round; `values` takes theta, RA, Dec, scale, the matrix, the error and the covariance: 5 and 18 places, or as many
 // as the lists have.
+// Stays (C interface): a list is a pointer and a length each.
 #[unsafe(no_mangle)]
 pub extern "C" fn raqembu_wcs_refine(
     spots: &[f64],
@@ -112,14 +106,11 @@ pub extern "C" fn raqembu_wcs_refine(
         indices.new result_list.new)
         counts.old counts.new values.old values.new }
 {
-    let row0 = row_at(rotation, 0, 1, 2);
-    let row1 = row_at(rotation, 3, 4, 5);
-    let row2 = row_at(rotation, 6, 7, 8);
-    let r = wcs_refine::wcs_refine(
+    let answer = wcs_refine::wcs_refine(
         spots,
         matches,
         directions,
-        [row0, row1, row2],
+        rotation_of(rotation),
         scale,
         mirror,
         radius,
@@ -132,7 +123,8 @@ pub extern "C" fn raqembu_wcs_refine(
         indices,
         result_list,
     );
-    put_counts(counts, r);
-    put_values(values, r);
-    r.refusal
+    let r = beside_the_number(answer);
+    put_counts(counts, &r);
+    put_values(values, &r);
+    number_given(answer)
 }

@@ -1,43 +1,44 @@
 // The functions for C and Rust to link (tools/build/library). Each hands its arguments to the function of the same name and promises the same. A NaN
 // that they answer or write has the bits 7FF8000000000000 (f32: 7FC00000).
+// Stays (C interface): C has no generic function and no slice, so each width has a name and each list a pointer and a length of its own.
 #![tactic(auto)]
 
 mod parts; // parts.rt: the median and the matcher
 mod call; // call.rt: the refinement call
 mod intake; // intake.rt: the record reader
-mod places; // places.rt: floats handed out in lists
+mod places; // places.rt: what goes out in lent lists
 
 ghost use Rattle.std.specs.Prelude.{◌≡◌};
 ghost use Rattle.std.specs.Float.{binary32, binary64};
 ghost use Rattle.rounding.specs.Root.{root};
 ghost use Rattle.rounding.specs.Narrow.{narrowed};
 
-use rounding::{canonical32, canonical64};
+use rounding::canonical;
 
 #[unsafe(no_mangle)]
 pub extern "C" fn raqembu_sqrt64(x: f64) -> f64
     ensures { result ≡ root binary64 x }
 {
-    canonical64(rounding::sqrt64(x))
+    canonical(rounding::sqrt(x))
 }
 
 #[unsafe(no_mangle)]
 pub extern "C" fn raqembu_sqrt32(x: f32) -> f32
     ensures { result ≡ root binary32 x }
 {
-    canonical32(rounding::sqrt32(x))
+    canonical(rounding::sqrt(x))
 }
 
 #[unsafe(no_mangle)]
 pub extern "C" fn raqembu_narrow(x: f64) -> f32
     ensures { result ≡ narrowed x }
 {
-    canonical32(rounding::narrow(x))
+    canonical(rounding::narrow(x))
 }
 
 #[unsafe(no_mangle)]
 pub extern "C" fn raqembu_widen(x: f32) -> f64
     ensures { result ≡ x }
 {
-    canonical64(rounding::widen(x))
+    canonical(rounding::widen(x))
 }

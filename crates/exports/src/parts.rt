@@ -3,12 +3,10 @@ ghost use Rattle.std.specs.Prelude.{◌≡◌, length, replicate};
 ghost use Rattle.rounding.specs.Arith.{zero64};
 ghost use Rattle.stats.specs.Median.{median_mad_sigma};
 ghost use Rattle.matching.specs.Greedy.{greedy_unique_matches};
-ghost use Rattle.matching.specs.Answer.{number_of, count_of};
 ghost use Rattle.exports.specs.Parts.{MatchedTo, two_places};
 
-use crate::places::put_double;
-use lists::put_number;
-use matching::Matched;
+use crate::places::put_all;
+use refusal::number_given;
 
 // Median and sigma go to the first two places of `out`, as far as it has them. The values are left zero.
 #[unsafe(no_mangle)]
@@ -17,13 +15,13 @@ pub extern "C" fn raqembu_median_mad_sigma(vals: &mut [f64], out: &mut [f64])
         × (out.new ≡ two_places out.old (median_mad_sigma vals.old)) }
 {
     let s = stats::median_mad_sigma(vals);
-    put_double(out, 0, s.median);
-    put_double(out, 1, s.sigma);
+    put_all(out, &[s.median, s.sigma]);
 }
 
 // 0, or the number of the refusal: 13, more pairs than the candidate lists hold, or 11, too short a `work`. Points and predictions are x and y each:
 // matching knows no weight. How many matches stand in `work` after its marks, and how often two pairs were compared to put them in order, goes to
 // the first two places of `counts`, as far as it has them.
+// Stays (C interface): a list is a pointer and a length each.
 #[unsafe(no_mangle)]
 pub extern "C" fn raqembu_greedy_unique_matches(
     points: &[f64],
@@ -44,27 +42,7 @@ pub extern "C" fn raqembu_greedy_unique_matches(
     let m = matching::greedy_unique_matches(
         points, max_points, predicted, radius_sq, distances, indices, work,
     );
-    put_number(counts, 0, count(m.matched));
-    put_number(counts, 1, m.comparisons);
-    number(m.matched)
-}
-
-fn number(m: Matched) -> usize
-    ensures { result ≡ number_of m }
-{
-    match m {
-        Matched::Matches(_) => 0,
-        Matched::TooMany => 13,
-        Matched::Short => 11,
-    }
-}
-
-fn count(m: Matched) -> usize
-    ensures { result ≡ count_of m }
-{
-    match m {
-        Matched::Matches(n) => n,
-        Matched::TooMany => 0,
-        Matched::Short => 0,
-    }
+    let count = m.matched.unwrap_or(0);
+    put_all(counts, &[count, m.comparisons]);
+    number_given(m.matched)
 }

@@ -1,21 +1,38 @@
-// Floats handed out in lent lists. 01: "Made here, a NaN has the bits 7FF8000000000000 (f32: 7FC00000)": whatever NaN a processor made on the way.
-ghost use Rattle.std.specs.Prelude.{◌≡◌, set};
+// What goes out in lent lists. 01: "Made here, a NaN has the bits 7FF8000000000000 (f32: 7FC00000)": whatever NaN a processor made on the way.
+ghost use Rattle.std.specs.Prelude.{◌≡◌};
+ghost use Rattle.exports.specs.Refined.{set_from};
 
-use lists::put_float;
-use rounding::{canonical32, canonical64};
+use lists::put;
+use rounding::canonical;
 
-// Past the end nothing is stored.
-pub(crate) fn put_double(l: &mut [f64], i: usize, x: f64)
-    ensures { l.new ≡ set l.old i x }
-{
-    put_float(l, i, canonical64(x));
+pub(crate) trait HandedOut: Copy {
+    fn made_here(self) -> Self
+        ensures { result ≡ self };
 }
 
-pub(crate) fn put_single(l: &mut [f32], i: usize, x: f32)
-    ensures { l.new ≡ set l.old i x }
+impl HandedOut for usize {
+    fn made_here(self) -> usize {
+        self
+    }
+}
+
+impl HandedOut for f64 {
+    fn made_here(self) -> f64 {
+        canonical(self)
+    }
+}
+
+impl HandedOut for f32 {
+    fn made_here(self) -> f32 {
+        canonical(self)
+    }
+}
+
+// One after another from the front of a list on, as far as it has the places.
+pub(crate) fn put_all<T: HandedOut>(l: &mut [T], xs: &[T])
+    ensures { l.new ≡ set_from 0 xs.now l.old }
 {
-    let y = canonical32(x);
-    if i < l.len() {
-        l[i] = y;
+    for (i, &x) in xs.iter().enumerate() {
+        put(l, i, x.made_here());
     }
 }

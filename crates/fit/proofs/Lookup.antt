@@ -1,34 +1,31 @@
--- What a list gives past its end, the rows of the matches one by one, and the view of a pose. Assumes nothing.
-use mathlib.Core.Path.{◌≡◌, sym, ap, ◌∙◌}
+-- The rows of the matches one by one. Assumes nothing.
+use mathlib.Core.Path.{◌≡◌, refl, sym, ap, ◌∙◌}
 use mathlib.Core.List.{List, [], ◌∷◌}
-use Prim.Native.Nat.{ℕ, suc, ◌+◌, ◌-◌, ◌*◌, ◌/◌, ◌≤◌, ◌<◌}
+use Prim.Native.Nat.{ℕ, zero, suc, ◌+◌, ◌-◌, ◌*◌, ◌≤◌, ◌<◌}
 use native.Mathlib.Numerals.{add-one}
 use native.Mathlib.Omega.{arith}
-use lib.Ieee.{Float, nan}
-use lib.ListN.{get_or, length, get_or-eq_default}
-use Rattle.project.specs.Camera.{tan_basis}
-use Rattle.fit.specs.Rows.{direction_at, row_at, rows_from, view_of, view_at, turn_of}
-use Rattle.fit.specs.declared.Pose.{Pose}
-use Rattle.fit.specs.declared.Turn.{Turn}
+use lib.Ieee.{Float}
+use lib.ListN.{get_or, take, drop}
+use lib.Seq.{get_or-drop, get_or-take, drop-drop}
+use Rattle.std.specs.Simd.{first_chunks}
+use Rattle.fit.specs.Rows.{row_at, rows_from}
 
--- past the end of a flat list a number is NaN
-past : (l : List Float) (k : ℕ) → length l ≤ k → get_or l k nan ≡ nan
-past l k h = get_or-eq_default l nan h
+-- ---- a match is a pair of the flat list
 
-pub direction_none : (l : List Float) (i : ℕ) → length l / 3 < i → nan ∷ nan ∷ nan ∷ [] ≡ direction_at l i
-unfolding direction_at
-direction_none l i h =
-    let x : length l ≤ 3 * i = omega arith in
-    let y : length l ≤ 3 * i + 1 = omega arith in
-    let z : length l ≤ 3 * i + 2 = omega arith in
-    rw (past l (3 * i) x, past l (3 * i + 1) y, past l (3 * i + 2) z)
+chunk_at : (ms : List ℕ) (n k : ℕ) (d : List ℕ) → k < n → get_or (first_chunks 2 n ms) k d ≡ take 2 (drop (2 * k) ms)
+chunk_at ms zero k d h = absurd (omega arith)
+chunk_at ms (suc n) zero d h = refl
+chunk_at ms (suc n) (suc k) d h =
+    let e : 2 * suc k ≡ 2 + 2 * k = omega arith in
+    rw (chunk_at (drop 2 ms) n k d (omega arith), drop-drop, e)
 
-pub direction_part : (l : List Float) (i : ℕ) {x y : Float} → length l / 3 ≤ i → x ≡ get_or l (3 * i) nan → y ≡ get_or l (3 * i + 1) nan
-    → x ∷ y ∷ nan ∷ [] ≡ direction_at l i
-unfolding direction_at
-direction_part l i h p q =
-    let z : length l ≤ 3 * i + 2 = omega arith in
-    rw (p, q, past l (3 * i + 2) z)
+pub pair_spot : (ms : List ℕ) (n k : ℕ) (d : List ℕ) {ps : List (List ℕ)} → ps ≡ first_chunks 2 n ms → k < n → get_or (get_or ps k d) 0 0 ≡ get_or ms (2 * k) 0
+pair_spot ms n k d e h =
+    let z : 2 * k + 0 ≡ 2 * k = omega arith in
+    rw (e, chunk_at ms n k d h, get_or-take 2 (drop (2 * k) ms) 0 0 (omega arith), get_or-drop, z)
+
+pub pair_direction : (ms : List ℕ) (n k : ℕ) (d : List ℕ) {ps : List (List ℕ)} → ps ≡ first_chunks 2 n ms → k < n → get_or (get_or ps k d) 1 0 ≡ get_or ms (2 * k + 1) 0
+pair_direction ms n k d e h = rw (e, chunk_at ms n k d h, get_or-take 2 (drop (2 * k) ms) 1 0 (omega arith), get_or-drop)
 
 -- The rows from the match i on: its own, and those from the next on; none from the end on.
 module _ (ss ds : List Float) (ms : List ℕ) (n i : ℕ) where
@@ -43,8 +40,3 @@ module _ (ss ds : List Float) (ms : List ℕ) (n i : ℕ) where
   rows_none h =
       let e : n - i ≡ 0 = omega arith in
       ap (rows_from ss ds ms i) e
-
--- What a pass computes once is the view of its pose.
-pub seen : (p : Pose) (cut : Float) {b : List (List Float)} {t : Turn} → b ≡ tan_basis p.ra p.dec → t ≡ turn_of p cut → view_at b t ≡ view_of p cut
-unfolding view_of turn_of
-seen p cut e f = rw (e, f)

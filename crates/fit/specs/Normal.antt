@@ -1,15 +1,14 @@
 -- The normal equations: `accumulate_normal_equations`, `normal_matrix`, `ls_fit_once` (wcs_refine.rs). Definitions only. Assumes nothing.
-use Rattle.std.specs.Prelude.{◌+◌, Bool, true, false, cond, List, [], ◌∷◌, ltb, Float}
+use Rattle.std.specs.Prelude.{◌≡◌, ◌+◌, Bool, true, false, cond, Option, Some, None, List, [], ◌∷◌, ltb, Float}
 use Rattle.std.specs.Float.Ieee.{neg}
 use Rattle.rounding.specs.Arith.{◌⊕◌, ◌⊖◌, ◌⊗◌, zero64, one64}
-use Rattle.solve.specs.Vector.{at}
+use Rattle.solve.specs.Vector.{at, row}
 use Rattle.project.specs.Project.{predict_tanplane}
 use Rattle.project.specs.Camera.{tan_project_vec}
 use Rattle.solve.specs.Solve.{solve3x3}
-use Rattle.fit.specs.Rows.{Row, View}
+use Rattle.fit.specs.Rows.{Row}
+use Rattle.fit.specs.declared.View.{View}
 use Rattle.panel.specs.declared.Spot.{Spot}
-use Rattle.project.specs.declared.Projected.{Projected}
-use Rattle.project.specs.declared.Projected.TheVariants.{At, Behind}
 use Rattle.project.specs.declared.Plane.{Plane}
 use Rattle.fit.specs.declared.Sums.{Sums}
 use Rattle.fit.specs.declared.Counted.{Counted}
@@ -41,9 +40,11 @@ added_row old weight a jxi c jeta =
 unfoldable pub accumulated_by : Sums → Float → List Float → List Float → Float → Float → Sums
 unfolding added_row
 accumulated_by s weight jxi jeta r_xi r_eta = record {
-  ata0 = added_row s.ata0 weight (at jxi 0) jxi (at jeta 0) jeta;
-  ata1 = added_row s.ata1 weight (at jxi 1) jxi (at jeta 1) jeta;
-  ata2 = added_row s.ata2 weight (at jxi 2) jxi (at jeta 2) jeta;
+  ata =
+      added_row (row s.ata 0) weight (at jxi 0) jxi (at jeta 0) jeta
+      ∷ added_row (row s.ata 1) weight (at jxi 1) jxi (at jeta 1) jeta
+      ∷ added_row (row s.ata 2) weight (at jxi 2) jxi (at jeta 2) jeta
+      ∷ [];
   atb =
       added (at s.atb 0) weight (at jxi 0) r_xi (at jeta 0) r_eta
       ∷ added (at s.atb 1) weight (at jxi 1) r_xi (at jeta 1) r_eta
@@ -65,7 +66,7 @@ accumulate_normal_equations s px py weight cos_t sin_t ps r_xi r_eta =
 unfoldable pub no_sums : Sums
 no_sums =
     let z = zero64 ∷ zero64 ∷ zero64 ∷ [] in
-    record { ata0 = z; ata1 = z; ata2 = z; atb = z }
+    record { ata = z ∷ z ∷ z ∷ []; atb = z }
 
 -- The same with the count of matches in front of the plane, `n_valid` or `n`, at 0.
 unfoldable pub no_matches : Counted
@@ -80,13 +81,17 @@ right_side true w c xi eta =
     let p = predict_tanplane c.px c.py w.cos_t w.sin_t w.ps in
     record { xi = xi ⊖ p.xi; eta = eta ⊖ p.eta }
 
+-- The code's side: what `gives` brings, by the spot of a match and its direction's plane point, is the right side of a fit or of a normal matrix.
+abbrev pub Brings : (Spot → Plane → Plane → Type 0) → Bool → View → Type 0
+Brings gives fitting w = (c : Spot) (p r : Plane) → gives c p r → r ≡ right_side fitting w c p.xi p.eta
+
 -- The body of the loop over the matches, with the direction's projection given: a match in front of the plane adds to the sums and is counted,
 -- one on or behind it is passed over (`continue`).
-unfoldable pub with_match : Bool → View → Counted → Spot → Projected → Counted
+unfoldable pub with_match : Bool → View → Counted → Spot → Option Plane → Counted
 unfolding accumulate_normal_equations right_side
-with_match fitting w t c Behind = t
-with_match fitting w t c (At xi eta) =
-    let r = right_side fitting w c xi eta in
+with_match fitting w t c None = t
+with_match fitting w t c (Some p) =
+    let r = right_side fitting w c p.xi p.eta in
     record {
       sums =
           accumulate_normal_equations t.sums c.px c.py c.weight w.cos_t w.sin_t w.ps r.xi r.eta;
@@ -112,7 +117,7 @@ normal_matrix w rs = with_rows false w no_matches rs
 -- The end of ls_fit_once. 01: "The fit stops below 3 valid matches."
 unfoldable pub solved_sums : Counted → Solution
 unfolding solve3x3
-solved_sums t = cond (ltb t.n 3) Failed (solve3x3 (t.sums.ata0 ∷ t.sums.ata1 ∷ t.sums.ata2 ∷ []) t.sums.atb)
+solved_sums t = cond (ltb t.n 3) Failed (solve3x3 t.sums.ata t.sums.atb)
 
 -- ls_fit_once. 01: "`Option` of a solution becomes an enum whose solved case carries the three corrections as floats".
 unfoldable pub ls_fit_once : View → List Row → Solution

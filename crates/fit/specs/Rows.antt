@@ -6,7 +6,7 @@ use Rattle.std.specs.Float.{nan}
 use Rattle.fit.specs.declared.Pose.{Pose}
 use Rattle.panel.specs.Spots.{spot_at}
 use Rattle.panel.specs.declared.Spot.{Spot}
-use Rattle.fit.specs.declared.Turn.{Turn}
+use Rattle.fit.specs.declared.View.{View}
 use Rattle.project.specs.Camera.{tan_basis}
 use Rattle.angles.specs.SinCos.{sin, cos}
 
@@ -47,16 +47,8 @@ unfoldable pub rows : List Float → List Float → List ℕ → List Row
 unfolding rows_from
 rows spots directions matches = rows_from spots directions matches 0 (length matches / 2)
 
--- What `ls_fit_once`, `normal_matrix` and `compute_residuals` compute once: the basis at (RA, Dec), cosine and sine of theta, the scale. Beside
--- them the plane cut, which `tan_project_vec` has as a number.
-pub record View : Type 0 where
-  pub basis : List (List Float)
-  pub cos_t : Float
-  pub sin_t : Float
-  pub ps : Float
-  pub cut : Float
-
--- The view at a pose: `theta.cos()`, `theta.sin()` and `tan_basis(crval_ra, crval_dec)` at the head of those functions.
+-- The view at a pose, what `ls_fit_once`, `normal_matrix` and `compute_residuals` compute once: `theta.cos()`, `theta.sin()` and
+-- `tan_basis(crval_ra, crval_dec)` at the head of those functions, and the scale. Beside them the plane cut, which `tan_project_vec` has as a number.
 unfoldable pub view_of : Pose → Float → View
 unfolding tan_basis sin cos
 view_of p cut = record {
@@ -66,12 +58,3 @@ view_of p cut = record {
   ps = p.scale;
   cut = cut;
 }
-
--- The code's side: it carries the basis by itself and a Turn with all else.
-abbrev pub view_at : List (List Float) → Turn → View
-view_at b t = record { basis = b; cos_t = t.cos_t; sin_t = t.sin_t; ps = t.ps; cut = t.cut }
-
--- The code's side: the Turn at a pose.
-unfoldable pub turn_of : Pose → Float → Turn
-unfolding sin cos
-turn_of p cut = record { cos_t = cos p.theta; sin_t = sin p.theta; ps = p.scale; cut = cut }

@@ -5,7 +5,7 @@ mod rows; // rows.rt: what a match brings to the fit
 mod normal; // normal.rt: the normal equations, and one pass of the fit
 
 pub use normal::{accumulate_normal_equations, ls_fit_once, normal_matrix};
-pub use rows::{direction_at, turn_of};
+pub use rows::{direction_at, view_of};
 
 // The pose: roll, the boresight's right ascension and declination, and the pixel scale, in radians and radians per pixel.
 #[derive(Clone, Copy)]
@@ -16,9 +16,11 @@ pub struct Pose {
     pub scale: f64,
 }
 
-// What a pass computes once from the pose, beside the basis of its tangent plane: cosine and sine of the roll, the scale, and the plane cut.
+// What a pass computes once from the pose: the basis of its tangent plane, cosine and sine of the roll, and the scale. The plane cut stands
+// beside them.
 #[derive(Clone, Copy)]
-pub struct Turn {
+pub struct View {
+    pub basis: [[f64; 3]; 3],
     pub cos_t: f64,
     pub sin_t: f64,
     pub ps: f64,
@@ -26,16 +28,14 @@ pub struct Turn {
 }
 
 // The normal equations, the matrix by rows.
-#[derive(Drop)]
+#[derive(Clone, Copy)]
 pub struct Sums {
-    pub ata0: [f64; 3],
-    pub ata1: [f64; 3],
-    pub ata2: [f64; 3],
+    pub ata: [[f64; 3]; 3],
     pub atb: [f64; 3],
 }
 
 // Sums, and the number of matches that they are over.
-#[derive(Drop)]
+#[derive(Clone, Copy)]
 pub struct Counted {
     pub sums: Sums,
     pub n: usize,

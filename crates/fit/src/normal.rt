@@ -1,13 +1,13 @@
 // The normal equations of the fit, summed over the matches from the left.
-ghost use Rattle.std.specs.Prelude.{◌≡◌, List, [], ◌∷◌, ◌<◌, ◌^◌, Float};
+ghost use Rattle.std.specs.Prelude.{◌≡◌, ◌+◌, ◌^◌, ◌<◌, ◌≤◌, Bool, true, [], ◌∷◌};
 ghost use Rattle.solve.specs.Vector.{at};
-ghost use Rattle.fit.specs.Rows.{rows, row_of, view_of, view_at};
-ghost use Rattle.fit.specs.Normal.{added, added_row, accumulated_by, accumulate_normal_equations, right_side, with_row, with_rows, no_matches, normal_matrix, solved_sums, ls_fit_once};
+ghost use Rattle.fit.specs.Rows.{rows, row_of, view_of};
+ghost use Rattle.fit.specs.Normal.{added, added_row, accumulated_by, accumulate_normal_equations, right_side, Brings, with_row, with_rows, no_matches, normal_matrix, solved_sums, ls_fit_once};
 
-use crate::rows::{direction_at, turn_of};
-use crate::{Counted, Pose, Sums, Turn};
+use crate::rows::{direction_at, view_of};
+use crate::{Counted, Pose, Sums, View};
 use panel::{Spot, spot_at};
-use project::{Plane, Projected, predict_tanplane, tan_basis, tan_project_vec};
+use project::{Plane, predict_tanplane, tan_project_vec};
 use solve::{Solution, solve_3x3};
 
 // What a match adds to one entry is one sum, multiplied by the weight of its spot.
@@ -17,6 +17,7 @@ fn added(old: f64, weight: f64, a: f64, b: f64, c: f64, d: f64) -> f64
     old + weight * (a * b + c * d)
 }
 
+#[tactic(auto, unfolding(crate::specs::Normal::added_row))]
 fn added_row(old: [f64; 3], weight: f64, a: f64, jxi: [f64; 3], c: f64, jeta: [f64; 3]) -> [f64; 3]
     ensures { result ≡ added_row old weight a jxi c jeta }
 {
@@ -47,130 +48,111 @@ fn added_side(
 }
 
 // With the weight and the rows of the Jacobian given.
-fn accumulated_by(
-    s: Sums,
-    weight: f64,
-    jxi: [f64; 3],
-    jeta: [f64; 3],
-    r_xi: f64,
-    r_eta: f64,
-) -> Sums
-    ensures { result ≡ accumulated_by s weight jxi jeta r_xi r_eta }
+#[tactic(auto, unfolding(crate::specs::Normal::accumulated_by))]
+fn accumulated_by(s: Sums, weight: f64, jxi: [f64; 3], jeta: [f64; 3], r: Plane) -> Sums
+    ensures { result ≡ accumulated_by s weight jxi jeta r.xi r.eta }
 {
-    let old0 = s.ata0;
-    let old1 = s.ata1;
-    let old2 = s.ata2;
-    let old_b = s.atb;
-    let ata0 = added_row(old0, weight, jxi[0], jxi, jeta[0], jeta);
-    let ata1 = added_row(old1, weight, jxi[1], jxi, jeta[1], jeta);
-    let ata2 = added_row(old2, weight, jxi[2], jxi, jeta[2], jeta);
-    let atb = added_side(old_b, weight, jxi, r_xi, jeta, r_eta);
+    let [ata0, ata1, ata2] = s.ata;
     Sums {
-        ata0,
-        ata1,
-        ata2,
-        atb,
+        ata: [
+            added_row(ata0, weight, jxi[0], jxi, jeta[0], jeta),
+            added_row(ata1, weight, jxi[1], jxi, jeta[1], jeta),
+            added_row(ata2, weight, jxi[2], jxi, jeta[2], jeta),
+        ],
+        atb: added_side(s.atb, weight, jxi, r.xi, jeta, r.eta),
     }
 }
 
-// What a match adds to the normal equations: its spot lies at (px, py) and pulls by its weight, and r_xi and r_eta are what is left from the spot's
-// plane point to the direction's.
+// What a match adds to the normal equations: its spot pulls by its weight, and r is what is left from the spot's plane point to the direction's.
+#[tactic(auto, unfolding(crate::specs::Normal::accumulate_normal_equations, crate::specs::Normal::xi_theta, crate::specs::Normal::eta_theta))]
 pub fn accumulate_normal_equations(
     s: Sums,
-    px: f64,
-    py: f64,
-    weight: f64,
+    c: Spot,
     cos_t: f64,
     sin_t: f64,
     ps: f64,
-    r_xi: f64,
-    r_eta: f64,
+    r: Plane,
 ) -> Sums
-    ensures { result ≡ accumulate_normal_equations s px py weight cos_t sin_t ps r_xi r_eta }
+    ensures { result ≡ accumulate_normal_equations s c.px c.py c.weight cos_t sin_t ps r.xi r.eta }
 {
-    let jxi = [ps * (-sin_t * px - cos_t * py), 1.0, 0.0];
-    let jeta = [ps * (cos_t * px - sin_t * py), 0.0, 1.0];
-    accumulated_by(s, weight, jxi, jeta, r_xi, r_eta)
+    let jxi = [ps * (-sin_t * c.px - cos_t * c.py), 1.0, 0.0];
+    let jeta = [ps * (cos_t * c.px - sin_t * c.py), 0.0, 1.0];
+    accumulated_by(s, c.weight, jxi, jeta, r)
 }
 
-// What is left from the spot's plane point to the direction's in a fit; nothing in a normal matrix.
-fn right_side(fitting: bool, t: Turn, c: Spot, xi: f64, eta: f64) -> Plane
-    ensures { (b : List (List Float)) → result ≡ right_side fitting (view_at b t) c xi eta }
+// What is left from the spot's plane point to the direction's: the right side that a match brings to a fit.
+#[tactic(auto, unfolding(crate::specs::Normal::right_side))]
+fn right_side(w: &View, c: Spot, p: Plane) -> Plane
+    ensures { result ≡ right_side true w.now c p.xi p.eta }
 {
-    if fitting {
-        let p = predict_tanplane(c.px, c.py, t.cos_t, t.sin_t, t.ps);
-        return Plane {
-            xi: xi - p.xi,
-            eta: eta - p.eta,
-        };
+    let q = predict_tanplane(c.px, c.py, w.cos_t, w.sin_t, w.ps);
+    Plane {
+        xi: p.xi - q.xi,
+        eta: p.eta - q.eta,
     }
-    Plane { xi: 0.0, eta: 0.0 }
 }
 
-// The sums with one match more, if its direction lies in front of the plane.
-fn with_row(
-    fitting: bool,
-    basis: [[f64; 3]; 3],
-    t: Turn,
+// The sums with one match more, if its direction lies in front of the plane. `brings` makes its right side.
+fn with_row<F: Fn(Spot, Plane) -> Plane>(
+    brings: &F,
+    w: &View,
     s: Counted,
     c: Spot,
     d: [f32; 3],
 ) -> Counted
-    requires { s.n < 2 ^ 63 }
-    ensures { result ≡ with_row fitting (view_at basis t) s (row_of c d) }
+    requires callable { F.IsAlwaysCallable brings.now }
+    requires few { s.n < 2 ^ 63 }
+    ensures counts { result.n ≤ s.n + 1 }
+    ensures is { (fitting : Bool) → Brings (F.post brings.now) fitting w.now → result ≡ with_row fitting w.now s (row_of c d) }
 {
-    let p = tan_project_vec(d, basis, t.cut);
-    let Projected::At(xi, eta) = p else {
+    let Some(p) = tan_project_vec(d, w.basis, w.cut) else {
         return s;
     };
-    let e = right_side(fitting, t, c, xi, eta);
-    let old = s.sums;
-    let sums = accumulate_normal_equations(
-        old, c.px, c.py, c.weight, t.cos_t, t.sin_t, t.ps, e.xi, e.eta,
-    );
-    Counted { sums, n: s.n + 1 }
+    let r = brings(c, p);
+    Counted {
+        sums: accumulate_normal_equations(s.sums, c, w.cos_t, w.sin_t, w.ps, r),
+        n: s.n + 1,
+    }
 }
 
 // Before the first match.
+#[tactic(auto, unfolding(crate::specs::Normal::no_matches, crate::specs::Normal::no_sums))]
 fn no_matches() -> Counted
     ensures { result ≡ no_matches }
 {
-    let z = [0.0, 0.0, 0.0];
-    let sums = Sums {
-        ata0: z,
-        ata1: z,
-        ata2: z,
-        atb: z,
-    };
-    Counted { sums, n: 0 }
+    Counted {
+        sums: Sums {
+            ata: [[0.0; 3]; 3],
+            atb: [0.0; 3],
+        },
+        n: 0,
+    }
 }
 
-// The sums over all matches, of a fit or of a normal matrix.
-fn summed(
-    fitting: bool,
+// The sums over all matches, with the right sides that `brings` makes.
+fn summed<F: Fn(Spot, Plane) -> Plane>(
+    brings: F,
     matches: &[usize],
     directions: &[f32],
     spots: &[f64],
-    basis: [[f64; 3]; 3],
-    t: Turn,
+    w: &View,
 ) -> Counted
-    ensures { result ≡ with_rows fitting (view_at basis t) no_matches
-        (rows spots.now directions.now matches.now) }
+    requires { F.IsAlwaysCallable brings }
+    ensures { (fitting : Bool) → Brings (F.post brings) fitting w.now
+        → result ≡ with_rows fitting w.now no_matches (rows spots.now directions.now matches.now) }
 {
-    let n = matches.len() / 2;
     let mut s = no_matches();
-    let mut i: usize = 0;
-    while i < n {
-        let c = spot_at(spots, matches[2 * i]);
-        let d = direction_at(directions, matches[2 * i + 1]);
-        let next = with_row(fitting, basis, t, s, c, d);
-        s = next;
-        i += 1;
+    for [spot, direction] in matches.as_chunks::<2>().0 {
+        let c = spot_at(spots, *spot);
+        let d = direction_at(directions, *direction);
+        s = with_row(&brings, w, s, c, d);
     }
     s
 }
 
 // The matrix of the normal equations over the matches in front of the plane, and how many they are.
+// Stays (form of 01): spots, directions and matches are lent as flat lists, each by itself, in the Rust's order.
+#[tactic(auto, unfolding(crate::specs::Normal::normal_matrix, crate::specs::Normal::right_side))]
 pub fn normal_matrix(
     matches: &[usize],
     directions: &[f32],
@@ -181,27 +163,30 @@ pub fn normal_matrix(
     ensures { result ≡ normal_matrix (view_of pose cut)
         (rows spots.now directions.now matches.now) }
 {
-    let basis = tan_basis(pose.ra, pose.dec);
-    let t = turn_of(pose, cut);
-    summed(false, matches, directions, spots, basis, t)
+    let w = view_of(pose, cut);
+    summed(
+        |_, _| Plane { xi: 0.0, eta: 0.0 },
+        matches,
+        directions,
+        spots,
+        &w,
+    )
 }
 
 // Fewer than 3 matches do not determine a solution.
+#[tactic(auto, unfolding(crate::specs::Normal::solved_sums))]
 fn solved_sums(c: Counted) -> Solution
     ensures { result ≡ solved_sums c }
 {
     if c.n < 3 {
         return Solution::Failed;
     }
-    let s = c.sums;
-    let a0 = s.ata0;
-    let a1 = s.ata1;
-    let a2 = s.ata2;
-    let b = s.atb;
-    solve_3x3([a0, a1, a2], b)
+    solve_3x3(c.sums.ata, c.sums.atb)
 }
 
 // One pass of least squares: the corrections of theta, xi and eta over the matches in front of the plane.
+// Stays (form of 01): spots, directions and matches are lent as flat lists, each by itself, in the Rust's order.
+#[tactic(auto, unfolding(crate::specs::Normal::ls_fit_once))]
 pub fn ls_fit_once(
     matches: &[usize],
     directions: &[f32],
@@ -212,7 +197,6 @@ pub fn ls_fit_once(
     ensures { result ≡ ls_fit_once (view_of pose cut)
         (rows spots.now directions.now matches.now) }
 {
-    let basis = tan_basis(pose.ra, pose.dec);
-    let t = turn_of(pose, cut);
-    solved_sums(summed(true, matches, directions, spots, basis, t))
+    let w = view_of(pose, cut);
+    solved_sums(summed(|c, p| right_side(&w, c, p), matches, directions, spots, &w))
 }

@@ -1,3 +1,4 @@
 pub mod Cases
 pub mod Fronts
 pub mod Clearing
+pub mod Chunks

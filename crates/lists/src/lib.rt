@@ -1,53 +1,46 @@
-// Reads, writes and clearings of lent lists that ask nothing of their place.
+// Reads, writes and clearings of lent lists that ask nothing of their place, whatever the lists hold.
 #![tactic(auto)]
 
-ghost use Rattle.std.specs.Prelude.{◌≡◌, min, max, get_or, set};
-ghost use Rattle.std.specs.Float.{binary64, nan};
+ghost use Rattle.std.specs.Prelude.{◌≡◌, get_or, set};
+ghost use Rattle.std.specs.Float.{binary64};
 ghost use Rattle.std.specs.Float.Ieee.{of_bits};
 ghost use Rattle.lists.specs.Cleared.{cleared};
 
-pub fn smaller(a: usize, b: usize) -> usize
-    ensures { result ≡ min a b }
-{
-    if a < b { a } else { b }
+// What a cleared place of a list is left as.
+pub trait Zero: Copy {
+    ghost ZERO: { Self };
+
+    const ZERO: Self;
 }
 
-pub fn greater(a: usize, b: usize) -> usize
-    ensures { result ≡ max a b }
-{
-    if a < b { b } else { a }
+impl Zero for usize {
+    ghost ZERO = { 0 };
+
+    const ZERO: usize = 0;
 }
 
-// What stands at a place, and 0 past the end.
+impl Zero for f64 {
+    ghost ZERO = { of_bits binary64 0 };
+
+    const ZERO: f64 = 0.0;
+}
+
+// What stands at a place, and `past` behind the end.
+pub fn at<T: Copy>(s: &[T], i: usize, past: T) -> T
+    ensures { result ≡ get_or s.now i past }
+{
+    s.get(i).copied().unwrap_or(past)
+}
+
+// An index behind the end reads as 0.
 pub fn number_at(s: &[usize], i: usize) -> usize
     ensures { result ≡ get_or s.now i 0 }
 {
-    if i < s.len() { s[i] } else { 0 }
+    at(s, i, 0)
 }
 
-// A float past the end reads as NaN.
-pub fn float_at(s: &[f64], i: usize) -> f64
-    ensures { result ≡ get_or s.now i nan }
-{
-    if i < s.len() { s[i] } else { 0.0 / 0.0 }
-}
-
-pub fn single_at(s: &[f32], i: usize) -> f32
-    ensures { result ≡ get_or s.now i nan }
-{
-    if i < s.len() { s[i] } else { 0.0 / 0.0 }
-}
-
-// Past the end nothing is stored.
-pub fn put_number(s: &mut [usize], i: usize, x: usize)
-    ensures { s.new ≡ set s.old i x }
-{
-    if i < s.len() {
-        s[i] = x;
-    }
-}
-
-pub fn put_float(s: &mut [f64], i: usize, x: f64)
+// Behind the end nothing is stored.
+pub fn put<T: Copy>(s: &mut [T], i: usize, x: T)
     ensures { s.new ≡ set s.old i x }
 {
     if i < s.len() {
@@ -56,24 +49,10 @@ pub fn put_float(s: &mut [f64], i: usize, x: f64)
 }
 
 // The first n places are left zero, all of them where there are fewer.
-pub fn clear_numbers(s: &mut [usize], n: usize)
-    ensures { s.new ≡ cleared 0 n s.old }
+pub fn clear<T: Zero>(s: &mut [T], n: usize)
+    ensures { s.new ≡ cleared T.ZERO n s.old }
 {
-    let m = smaller(n, s.len());
-    let mut i: usize = 0;
-    while i < m {
-        s[i] = 0;
-        i += 1;
-    }
-}
-
-pub fn clear_floats(s: &mut [f64], n: usize)
-    ensures { s.new ≡ cleared (of_bits binary64 0) n s.old }
-{
-    let m = smaller(n, s.len());
-    let mut i: usize = 0;
-    while i < m {
-        s[i] = 0.0;
-        i += 1;
+    for i in 0..n.min(s.len()) {
+        s[i] = T::ZERO;
     }
 }

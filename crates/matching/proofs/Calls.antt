@@ -8,7 +8,9 @@ use Rattle.pairs.specs.Strips.{strip_room}
 use Rattle.matching.specs.Merge.{not_after}
 use Rattle.matching.specs.Comparisons.{comparisons}
 use Rattle.matching.specs.Greedy.{Match, Outcome, matches_of, flat, marks, needed, placed, overfull, greedy_unique_matches, greedy_by_strips}
-use Rattle.matching.specs.declared.Matched.TheVariants.{Matches, TooMany, Short}
+use Rattle.std.specs.Prelude.{Result, Ok, Err}
+use Rattle.refusal.specs.declared.Refusal.{Refusal}
+use Rattle.refusal.specs.declared.Refusal.TheVariants.{ManyPairs, ShortList}
 use Rattle.matching.specs.Meaning.{Frame}
 use Rattle.matching.specs.Meant.{HandedBack, CallMeant, CallByStripsMeant}
 use Rattle.matching.proofs.Meaning.{matcher_meant}
@@ -18,13 +20,13 @@ unfolding flat
 flat_many [] = refl
 flat_many (m ∷ ms) = omega (arith, flat_many ms)
 
-too_many : (n : ℕ) → TooMany ≡ Matches n → ⊥
+too_many : (n : ℕ) → ◌≡◌ {A = Result ℕ Refusal} (Err ManyPairs) (Ok n) → ⊥
 too_many n h = cc
 
-short : (n : ℕ) → Short ≡ Matches n → ⊥
+short : (n : ℕ) → ◌≡◌ {A = Result ℕ Refusal} (Err ShortList) (Ok n) → ⊥
 short n h = cc
 
-counted : (m n : ℕ) → Matches m ≡ Matches n → m ≡ n
+counted : (m n : ℕ) → ◌≡◌ {A = Result ℕ Refusal} (Ok m) (Ok n) → m ≡ n
 counted m n h = cc
 
 module _ (f : Frame) where
@@ -57,29 +59,29 @@ module _ (f : Frame) where
         list distances indices work
 
     -- a call that answers matches has placed the list
-    answered : (n : ℕ) → o.answer ≡ Matches n → o ≡ all
+    answered : (n : ℕ) → o.answer ≡ Ok n → o ≡ all
     unfolding greedy_unique_matches overfull
     answered n h =
         by (ltb (length work) (needed f.points f.limit f.predicted))
         (ltb (capacity distances indices) (length (pairs f.points f.limit f.predicted f.radius_sq))) h
       where
         shorter : Outcome
-        shorter = record { answer = Short; comparisons = 0; distances = distances; indices = indices; work = work }
+        shorter = record { answer = Err ShortList; comparisons = 0; distances = distances; indices = indices; work = work }
 
-        by : (s t : Bool) → (cond s shorter (cond t (overfull distances indices work) all)).answer ≡ Matches n
+        by : (s t : Bool) → (cond s shorter (cond t (overfull distances indices work) all)).answer ≡ Ok n
             → cond s shorter (cond t (overfull distances indices work) all) ≡ all
         by true t e = absurd (short n e)
         by false true e = absurd (too_many n e)
         by false false e = refl
 
-    many : (n : ℕ) → o.answer ≡ Matches n → length list ≡ n
+    many : (n : ℕ) → o.answer ≡ Ok n → length list ≡ n
     unfolding placed
     many n h = counted (length list) n (sym (ap (λ (x : Outcome). x.answer) (answered n h)) ∙ h)
 
     rest : List ℕ
     rest = drop (marked + 2 * length list) work
 
-    stands : (n : ℕ) → o.answer ≡ Matches n → o.work ≡ replicate marked 0 ++ (flat list ++ rest)
+    stands : (n : ℕ) → o.answer ≡ Ok n → o.work ≡ replicate marked 0 ++ (flat list ++ rest)
     unfolding placed rest
     stands n h = ap (λ (x : Outcome). x.work) (answered n h) ∙ append_assoc (replicate marked 0) (flat list) rest
 
@@ -108,7 +110,7 @@ call_by_strips_meant f d ix w n h =
     }
 
     shorter : Outcome
-    shorter = record { answer = Short; comparisons = 0; distances = d; indices = ix; work = w }
+    shorter = record { answer = Err ShortList; comparisons = 0; distances = d; indices = ix; work = w }
 
     zeros : List ℕ
     zeros = replicate room 0
@@ -116,7 +118,7 @@ call_by_strips_meant f d ix w n h =
     zeros' : List ℕ
     zeros' = replicate (marked f) 0
 
-    by : (s : Bool) → (cond s shorter behind).answer ≡ Matches n → HandedBack f n (room + marked f) (cond s shorter behind).work
+    by : (s : Bool) → (cond s shorter behind).answer ≡ Ok n → HandedBack f n (room + marked f) (cond s shorter behind).work
     by true e = absurd (short n e)
     by false e =
         left f n (room + marked f) behind.work (zeros ++ zeros') (rest f d ix (drop room w))

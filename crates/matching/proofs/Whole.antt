@@ -12,8 +12,9 @@ use lib.Dec.{ltb}
 use lib.ListN.{length, take, drop, get_or, replicate, length-append, length-drop, length-replicate, replicate-append-replicate}
 use lib.Seq.{slice, length-slice, get_or-take, get_or-drop, take_at, drop_at, take-length, drop-length}
 use Rattle.rounding.specs.Arith.{zero64}
-use Rattle.matching.specs.declared.Matched.{Matched}
-use Rattle.matching.specs.declared.Matched.TheVariants.{Matches, Short}
+use Rattle.std.specs.Prelude.{Result, Ok, Err}
+use Rattle.refusal.specs.declared.Refusal.{Refusal}
+use Rattle.refusal.specs.declared.Refusal.TheVariants.{ShortList}
 use Rattle.pairs.specs.Pairs.{Pair, pairs, pairs_from, spots_within}
 use Rattle.pairs.specs.Elements.{All}
 use Rattle.pairs.specs.Candidates.{capacity, Inside, nothing, laid, Beyond, found, pushed}
@@ -35,7 +36,7 @@ use Rattle.matching.proofs.Unique.{same_length}
 use Rattle.pairs.proofs.Nearby.{nearby_same}
 use Rattle.pairs.proofs.BySpot.{nearby_by_spot}
 
-same_outcome : {a a' : Matched} {n n' : ℕ} {d d' : List Float} {ix ix' w w' : List ℕ} → a ≡ a' → n ≡ n' → d ≡ d' → ix ≡ ix' → w ≡ w'
+pub same_outcome : {a a' : Result ℕ Refusal} {n n' : ℕ} {d d' : List Float} {ix ix' w w' : List ℕ} → a ≡ a' → n ≡ n' → d ≡ d' → ix ≡ ix' → w ≡ w'
     → outcome a n d ix w ≡ outcome a' n' d' ix' w'
 same_outcome p c q r s = cc
 
@@ -63,7 +64,7 @@ module _ (np nq m : ℕ) (d : List Float) (ix w : List ℕ) (d' : List Float) (i
       rw (at, laid_get d' ix' (from + k) (omega arith) (omega arith)) at in_it.1
 
   pub settled : (t : ℕ) (w' : List ℕ) → np + nq + 2 * min np nq ≤ length w → taking t w' ≡ offers np (np + nq) ix' from m (taking 0 (cleared_n (np + nq) w))
-      → outcome (Matches t) c (cleared (2 * m) d') (cleared_n (4 * m) ix') (cleared_n (np + nq) w')
+      → outcome (Ok t) c (cleared (2 * m) d') (cleared_n (4 * m) ix') (cleared_n (np + nq) w')
       ≡ placed (np + nq) m (comparisons not_after ps) (assigned [] (merged not_after ps)) d ix w
   unfolding placed
   settled t w' room did =
@@ -75,7 +76,7 @@ module _ (np nq m : ℕ) (d : List Float) (ix w : List ℕ) (d' : List Float) (i
       let end = subst (λ (s : Taking). Taken (np + nq) w s (length ms) (flat ms)) (sym went)
       (all_offered np nq w room (merged not_after ps) (all_merged not_after (Inside np nq) ps inside)) in
       same_outcome
-      (ap Matches end.count)
+      (ap Ok end.count)
       ordered.3
       (ap (λ (l : List Float). replicate (2 * m) zero64 ++ l) ordered.2.distances)
       (ap (λ (l : List ℕ). replicate (4 * m) 0 ++ l) (rw e at ordered.2.indices))
@@ -180,11 +181,11 @@ module _ (points : List Float) (limit : ℕ) (predicted : List Float) (r2 : Floa
 -- The code's numbers: the spots that are looked at, and how many matches there can be.
 module _ (points : List Float) (limit : ℕ) (predicted : List Float) (r2 : Float) (d : List Float) (ix w : List ℕ)
     (np least : ℕ) (spots : np ≡ spots_within points limit) (lesser : least ≡ min np (length predicted / 2)) where
-  pub too_short : length w < np + length predicted / 2 + 2 * least → outcome Short 0 d ix w ≡ greedy_unique_matches points limit predicted r2 d ix w
+  pub too_short : length w < np + length predicted / 2 + 2 * least → outcome (Err ShortList) 0 d ix w ≡ greedy_unique_matches points limit predicted r2 d ix w
   unfolding greedy_unique_matches
   too_short h = rw (lt-ltb _ _ (rw (lesser, spots) at h))
 
-  pub too_short_for_strips : length w < 2 * np + np + length predicted / 2 + 2 * least → outcome Short 0 d ix w ≡ greedy_by_strips points limit predicted r2 d ix w
+  pub too_short_for_strips : length w < 2 * np + np + length predicted / 2 + 2 * least → outcome (Err ShortList) 0 d ix w ≡ greedy_by_strips points limit predicted r2 d ix w
   unfolding greedy_by_strips
   too_short_for_strips h = rw (← spots, ← lesser, lt-ltb (length w) (2 * np + (np + length predicted / 2 + 2 * least)) (omega arith))
 
@@ -286,7 +287,7 @@ module _ (points : List Float) (limit : ℕ) (predicted : List Float) (r2 : Floa
     pub enough_lent : np + nq + 2 * min np nq ≤ length (take (length v - 2 * np) (drop (2 * np) v))
     enough_lent = rw lent_rest (rw (← spots) at enough_behind)
 
-    pub answered_by_strips : (a : Matched) (n : ℕ) (e : List Float) (jx l : List ℕ)
+    pub answered_by_strips : (a : Result ℕ Refusal) (n : ℕ) (e : List Float) (jx l : List ℕ)
         → outcome a n e jx l ≡ concluded np nq cap r from d' ix' (take (length v - 2 * np) (drop (2 * np) v))
         → outcome a n e jx (take (2 * np) v ++ (l ++ drop (length v - 2 * np) (drop (2 * np) v))) ≡ greedy_by_strips points limit predicted r2 d ix w
     answered_by_strips a n e jx l done =

@@ -1,13 +1,13 @@
 -- The assignment, and `greedy_unique_matches` (solver/matching.rs) whole, with what it leaves in the lent lists. Definitions only. Assumes nothing.
-use Rattle.std.specs.Prelude.{ℕ, ◌+◌, ◌*◌, ◌/◌, min, Bool, false, cond, ◌||◌, List, [], ◌∷◌, ◌++◌, ltb, eqb, length, drop, replicate, Float}
+use Rattle.std.specs.Prelude.{ℕ, ◌+◌, ◌*◌, ◌/◌, min, Bool, false, cond, ◌||◌, List, [], ◌∷◌, ◌++◌, ltb, eqb, length, drop, replicate, Result, Ok, Err, Float}
 use Rattle.rounding.specs.Arith.{zero64}
 use Rattle.pairs.specs.Pairs.{Pair, pairs, spots_within}
 use Rattle.pairs.specs.Candidates.{capacity}
 use Rattle.pairs.specs.Strips.{strip_room}
 use Rattle.matching.specs.Merge.{not_after, merged}
 use Rattle.matching.specs.Comparisons.{comparisons}
-use Rattle.matching.specs.declared.Matched.{Matched}
-use Rattle.matching.specs.declared.Matched.TheVariants.{Matches, TooMany, Short}
+use Rattle.refusal.specs.declared.Refusal.{Refusal}
+use Rattle.refusal.specs.declared.Refusal.TheVariants.{ManyPairs, ShortList}
 
 -- A spot and the place of its prediction.
 pub record Match : Type 0 where
@@ -57,7 +57,7 @@ needed points limit predicted = marks points limit predicted + 2 * min (spots_wi
 
 -- What a call answers, how often it compared two pairs to put them in order (02, CR 14), and what the lists written to hold afterwards.
 pub record Outcome : Type 0 where
-  pub answer : Matched
+  pub answer : Result ℕ Refusal
   pub comparisons : ℕ
   pub distances : List Float
   pub indices : List ℕ
@@ -67,7 +67,7 @@ pub record Outcome : Type 0 where
 unfoldable pub placed : ℕ → ℕ → ℕ → List Match → List Float → List ℕ → List ℕ → Outcome
 unfolding flat
 placed marked count compared ms distances indices work = record {
-  answer = Matches (length ms);
+  answer = Ok (length ms);
   comparisons = compared;
   distances = cleared (2 * count) distances;
   indices = cleared_n (4 * count) indices;
@@ -77,7 +77,7 @@ placed marked count compared ms distances indices work = record {
 -- More pairs than the lists hold: nothing is ordered or matched, and the places that held pairs are left zero.
 unfoldable pub overfull : List Float → List ℕ → List ℕ → Outcome
 overfull distances indices work = record {
-  answer = TooMany;
+  answer = Err ManyPairs;
   comparisons = 0;
   distances = cleared (capacity distances indices) distances;
   indices = cleared_n (2 * capacity distances indices) indices;
@@ -89,7 +89,7 @@ unfoldable pub greedy_unique_matches : List Float → ℕ → List Float → Flo
 unfolding pairs matches_of placed overfull comparisons not_after
 greedy_unique_matches points limit predicted r2 distances indices work =
     cond (ltb (length work) (needed points limit predicted))
-    (record { answer = Short; comparisons = 0; distances = distances; indices = indices; work = work })
+    (record { answer = Err ShortList; comparisons = 0; distances = distances; indices = indices; work = work })
     (cond (ltb (capacity distances indices) (length (pairs points limit predicted r2)))
     (overfull distances indices work)
     (placed (marks points limit predicted) (length (pairs points limit predicted r2))
@@ -103,7 +103,7 @@ unfoldable pub greedy_by_strips : List Float → ℕ → List Float → Float �
 unfolding greedy_unique_matches
 greedy_by_strips points limit predicted r2 distances indices work =
     cond (ltb (length work) (strip_room points limit + needed points limit predicted))
-    (record { answer = Short; comparisons = 0; distances = distances; indices = indices; work = work })
+    (record { answer = Err ShortList; comparisons = 0; distances = distances; indices = indices; work = work })
     (behind (greedy_unique_matches points limit predicted r2 distances indices (drop (strip_room points limit) work)))
   where
     behind : Outcome → Outcome

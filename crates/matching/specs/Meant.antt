@@ -1,8 +1,7 @@
 -- That the matcher's list is the one of `Meaning.antt`, and that its calls hand back that list; `proofs/Meaning.antt` and `proofs/Calls.antt`
 -- prove each claim under the same name in small letters. Definitions only. Assumes nothing.
-use Rattle.std.specs.Prelude.{◌≡◌, ℕ, ◌+◌, ◌*◌, List, length, take, drop, Float}
+use Rattle.std.specs.Prelude.{◌≡◌, ℕ, ◌+◌, ◌*◌, List, length, take, drop, Ok, Float}
 use Rattle.pairs.specs.Strips.{strip_room}
-use Rattle.matching.specs.declared.Matched.TheVariants.{Matches}
 use Rattle.matching.specs.Greedy.{Match, matches_of, flat, marks, greedy_unique_matches, greedy_by_strips}
 use Rattle.matching.specs.Meaning.{Frame, TheMatches}
 
@@ -21,10 +20,10 @@ pub record HandedBack (f : Frame) (n from : ℕ) (work : List ℕ) : Type 0 wher
 abbrev pub CallMeant : Type 0
 CallMeant = (f : Frame) (distances : List Float) (indices work : List ℕ) (n : ℕ) →
     let o = greedy_unique_matches f.points f.limit f.predicted f.radius_sq distances indices work in
-    o.answer ≡ Matches n → HandedBack f n (marks f.points f.limit f.predicted) o.work
+    o.answer ≡ Ok n → HandedBack f n (marks f.points f.limit f.predicted) o.work
 
 -- and so does the call with room for strips, which stands in front of the marks.
 abbrev pub CallByStripsMeant : Type 0
 CallByStripsMeant = (f : Frame) (distances : List Float) (indices work : List ℕ) (n : ℕ) →
     let o = greedy_by_strips f.points f.limit f.predicted f.radius_sq distances indices work in
-    o.answer ≡ Matches n → HandedBack f n (strip_room f.points f.limit + marks f.points f.limit f.predicted) o.work
+    o.answer ≡ Ok n → HandedBack f n (strip_room f.points f.limit + marks f.points f.limit f.predicted) o.work

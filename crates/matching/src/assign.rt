@@ -2,6 +2,8 @@
 ghost use Rattle.std.specs.Prelude.{◌≡◌, ℕ, ◌+◌, ◌*◌, ◌<◌, ◌≤◌, ◌^◌, length, get_or};
 ghost use Rattle.matching.specs.Layout.{taking, offered, offers};
 
+use pairs::Candidates;
+
 // A spot and a prediction are taken unless one of them is marked. How many matches there are then is the result.
 fn offer(
     work: &mut [usize],
@@ -17,10 +19,10 @@ fn offer(
 {
     if lists::number_at(&work[..], spot) == 0 {
         if lists::number_at(&work[..], np + prediction) == 0 {
-            lists::put_number(work, spot, 1);
-            lists::put_number(work, np + prediction, 1);
-            lists::put_number(work, marked + 2 * t, spot);
-            lists::put_number(work, marked + 2 * t + 1, prediction);
+            lists::put(work, spot, 1);
+            lists::put(work, np + prediction, 1);
+            lists::put(work, marked + 2 * t, spot);
+            lists::put(work, marked + 2 * t + 1, prediction);
             return t + 1;
         }
     }
@@ -29,27 +31,24 @@ fn offer(
 
 // The m pairs from place `from` on are offered in turn. How many matches there are then is the result.
 pub(crate) fn assign(
-    indices: &[usize],
+    c: &Candidates<'_>,
     from: usize,
     m: usize,
     np: usize,
     marked: usize,
     work: &mut [usize],
 ) -> usize
-    requires { (2 * (from + m) ≤ length indices.now)
+    requires { (2 * (from + m) ≤ length c.now.indices.now)
         × (marked ≤ length work.old)
-        × ((k : ℕ) → k < m → np + get_or indices.now (2 * (from + k) + 1) 0 < 2 ^ 64) }
+        × ((k : ℕ) → k < m → np + get_or c.now.indices.now (2 * (from + k) + 1) 0 < 2 ^ 64) }
     ensures { taking result work.new
-        ≡ offers np marked indices.now from m (taking 0 work.old) }
+        ≡ offers np marked c.now.indices.now from m (taking 0 work.old) }
 {
     let mut t: usize = 0;
-    let mut i: usize = 0;
-    while i < m {
-        let k = from + i;
-        let spot = indices[2 * k];
-        let prediction = indices[2 * k + 1];
+    for k in from..from + m {
+        let spot = c.indices[2 * k];
+        let prediction = c.indices[2 * k + 1];
         t = offer(work, np, marked, t, spot, prediction);
-        i += 1;
     }
     t
 }

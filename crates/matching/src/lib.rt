@@ -7,32 +7,28 @@ ghost use Rattle.matching.specs.Merge.{not_after, merged};
 ghost use Rattle.matching.specs.Comparisons.{comparisons};
 ghost use Rattle.matching.specs.Greedy.{Outcome, assigned, placed, greedy_unique_matches, greedy_by_strips};
 ghost use Rattle.pairs.specs.Elements.{All};
-ghost use Rattle.pairs.specs.Candidates.{Inside, laid};
+ghost use Rattle.pairs.specs.Candidates.{Inside};
+ghost use Rattle.pairs.specs.Lent.{held, Same};
 ghost use Rattle.matching.specs.Layout.{outcome, concluded};
+
+use pairs::Candidates;
+use refusal::Refusal;
 
 mod assign;
 mod merge;
+mod two_runs;
 
-// What the matcher answers.
-#[derive(Clone, Copy)]
-pub enum Matched {
-    // This many matches stand in the work list, after its marks.
-    Matches(usize),
-    // There are more pairs within the radius than the candidate lists hold (refusal 13's condition).
-    TooMany,
-    // The work list is too short for the marks and the matches.
-    Short,
-}
-
-// What a call of the matcher answers, and how often it compared two pairs to put them in order: 0 where it ordered none.
+// What a call of the matcher answers, and how often it compared two pairs to put them in order: 0 where it ordered none. So many matches stand in the
+// work list, after its marks; or there are more pairs within the radius than the candidate lists hold, or the work list is too short for the marks and
+// the matches.
 #[derive(Clone, Copy)]
 pub struct Matching {
-    pub matched: Matched,
+    pub matched: Result<usize, Refusal>,
     pub comparisons: usize,
 }
 
 // An answer that no ordering came before.
-fn unordered(matched: Matched) -> Matching
+fn unordered(matched: Result<usize, Refusal>) -> Matching
     ensures { (result.matched ≡ matched) × (result.comparisons ≡ 0) }
 {
     Matching {
@@ -48,64 +44,61 @@ fn settle(
     nq: usize,
     m: usize,
     from: usize,
-    distances: &mut [f64],
-    indices: &mut [usize],
+    c: &mut Candidates<'_>,
     work: &mut [usize],
 ) -> Matching
-    requires { (2 * m ≤ length distances.old)
-        × (4 * m ≤ length indices.old)
+    requires { (m ≤ c.old.cap)
         × ((from ≡ 0) ⊎ (from ≡ m))
         × (np + nq + 2 * min np nq ≤ length work.old)
-        × All (Inside np nq) (slice from (from + m) (laid distances.old indices.old)) }
-    ensures { outcome result.matched result.comparisons distances.new indices.new work.new
+        × All (Inside np nq) (slice from (from + m) (held c.old)) }
+    ensures { Same c.old c.new
+        × (outcome result.matched result.comparisons c.new.distances.now c.new.indices.now work.new
         ≡ placed (np + nq) m
-        (comparisons not_after (slice from (from + m) (laid distances.old indices.old)))
-        (assigned [] (merged not_after (slice from (from + m) (laid distances.old indices.old))))
-        distances.old indices.old work.old }
+        (comparisons not_after (slice from (from + m) (held c.old)))
+        (assigned [] (merged not_after (slice from (from + m) (held c.old))))
+        c.old.distances.now c.old.indices.now work.old) }
 {
     let marked = np + nq;
-    let o = merge::order(distances, indices, m, from);
-    lists::clear_numbers(work, marked);
-    let t = assign::assign(&indices[..], o.at, m, np, marked, work);
-    lists::clear_numbers(work, marked);
-    lists::clear_floats(distances, 2 * m);
-    lists::clear_numbers(indices, 4 * m);
+    let o = merge::order(c, m, from);
+    lists::clear(work, marked);
+    let t = assign::assign(c, o.at, m, np, marked, work);
+    lists::clear(work, marked);
+    lists::clear(c.distances, 2 * m);
+    lists::clear(c.indices, 4 * m);
     Matching {
-        matched: Matched::Matches(t),
+        matched: Ok(t),
         comparisons: o.compared,
     }
 }
 
-// What is answered once m pairs were found. `cap` of them stand in the candidate lists at the most; where they all do, they stand from place `from` on.
+// What is answered once m pairs were found. No more of them stand in the candidate lists than these hold; where they all do, they stand from place `from` on.
 fn concluded(
     np: usize,
     nq: usize,
-    cap: usize,
     m: usize,
     from: usize,
-    distances: &mut [f64],
-    indices: &mut [usize],
+    c: &mut Candidates<'_>,
     work: &mut [usize],
 ) -> Matching
-    requires { (2 * cap ≤ length distances.old)
-        × (4 * cap ≤ length indices.old)
-        × ((from ≡ 0) ⊎ (from ≡ m))
+    requires { ((from ≡ 0) ⊎ (from ≡ m))
         × (np + nq + 2 * min np nq ≤ length work.old)
-        × (m ≤ cap → All (Inside np nq) (slice from (from + m) (laid distances.old indices.old))) }
-    ensures { outcome result.matched result.comparisons distances.new indices.new work.new
-        ≡ concluded np nq cap m from distances.old indices.old work.old }
+        × (m ≤ c.old.cap → All (Inside np nq) (slice from (from + m) (held c.old))) }
+    ensures { Same c.old c.new
+        × (outcome result.matched result.comparisons c.new.distances.now c.new.indices.now work.new
+        ≡ concluded np nq c.old.cap m from c.old.distances.now c.old.indices.now work.old) }
 {
-    if cap < m {
-        lists::clear_floats(distances, cap);
-        lists::clear_numbers(indices, 2 * cap);
-        return unordered(Matched::TooMany);
+    if c.cap < m {
+        lists::clear(c.distances, c.cap);
+        lists::clear(c.indices, 2 * c.cap);
+        return unordered(Err(Refusal::ManyPairs));
     }
-    settle(np, nq, m, from, distances, indices, work)
+    settle(np, nq, m, from, c, work)
 }
 
 // Matches the spots, the first `max_points` of them, with the predictions: pairs within the radius are taken nearest first,
 // each spot and each prediction once. Points are flat, x then y. `distances` and `indices` are room for the pairs; `work`
 // has room for a mark of each spot and prediction, and then the matches, spot and prediction.
+// Stays (form of 01): the lists are lent flat, each by itself; inside, the candidate lists are one `Candidates`.
 pub fn greedy_unique_matches(
     points: &[f64],
     max_points: usize,
@@ -128,16 +121,17 @@ pub fn greedy_unique_matches(
 {
     let np = pairs::spots_within(points, max_points);
     let nq = predicted.len() / 2;
-    if work.len() < np + nq + 2 * lists::smaller(np, nq) {
-        return unordered(Matched::Short);
+    if work.len() < np + nq + 2 * np.min(nq) {
+        return unordered(Err(Refusal::ShortList));
     }
-    let cap = lists::smaller(distances.len() / 2, indices.len() / 4);
-    let m = pairs::collect(points, max_points, predicted, radius_sq, distances, indices);
-    concluded(np, nq, cap, m, 0, distances, indices, work)
+    let mut c = Candidates::new(distances, indices);
+    let m = pairs::collect(points, max_points, predicted, radius_sq, &mut c);
+    concluded(np, nq, m, 0, &mut c, work)
 }
 
 // The same matches, found more quickly: `work` has room in front of the marks, two places for each spot, where the spots are sorted into strips, so
 // that a prediction is tried only with the spots of the strips near it. That room is left zero.
+// Stays (form of 01): the lists are lent flat, each by itself, as above.
 pub fn greedy_unique_matches_by_strips(
     points: &[f64],
     max_points: usize,
@@ -161,13 +155,11 @@ pub fn greedy_unique_matches_by_strips(
     let np = pairs::spots_within(points, max_points);
     let nq = predicted.len() / 2;
     let room = 2 * np;
-    if work.len() < room + np + nq + 2 * lists::smaller(np, nq) {
-        return unordered(Matched::Short);
+    if work.len() < room + np + nq + 2 * np.min(nq) {
+        return unordered(Err(Refusal::ShortList));
     }
-    let cap = lists::smaller(distances.len() / 2, indices.len() / 4);
-    let m = pairs::collect_by_strips(
-        points, max_points, predicted, radius_sq, distances, indices, work,
-    );
-    pairs::put_by_spot(distances, indices, m, np, work);
-    concluded(np, nq, cap, m, m, distances, indices, &mut work[room..])
+    let mut c = Candidates::new(distances, indices);
+    let m = pairs::collect_by_strips(points, max_points, predicted, radius_sq, &mut c, work);
+    pairs::put_by_spot(&mut c, m, np, work);
+    concluded(np, nq, m, m, &mut c, &mut work[room..])
 }

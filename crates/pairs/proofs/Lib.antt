@@ -1,5 +1,6 @@
 pub mod Elements
 pub mod Laying
+pub mod Lent
 pub mod Floats
 pub mod Monotone
 pub mod Covered

@@ -1,13 +1,17 @@
 -- Pairs pushed one after the other: a spot's pairs prediction by prediction, all pairs spot by spot, and what the lists hold in the end. Assumes nothing.
-use Rattle.std.proofs.Common.{◌≡◌, ℕ, suc, ◌+◌, ◌-◌, ◌*◌, ◌/◌, ◌<◌, ◌≤◌, true, false, List, [], ◌∷◌, ◌++◌, length, take, set, sym, refl, ap, ◌∙◌, subst, ⊎_elim, append_assoc, append-nil, add-one, arith, length-set, take-suc-set, le-ltb, lt-ltb}
+use Rattle.std.proofs.Common.{◌≡◌, ℕ, suc, ◌+◌, ◌-◌, ◌*◌, ◌/◌, ◌<◌, ◌≤◌, Bool, true, false, List, [], ◌∷◌, ◌++◌, length, take, set, sym, refl, ap, ◌∙◌, subst, ⊎_elim, append_assoc, append-nil, add-one, arith, length-set, take-suc-set, le-ltb, lt-ltb}
 use lib.Ieee.{Float, le}
 use Rattle.pairs.specs.Pairs.{Pair, Point, point_at, squared, within, pairs_of, pairs_from}
+use Rattle.std.specs.Prelude.{Option, Some, None}
 use Rattle.pairs.specs.Candidates.{pair, Inside, laid, Found, found, push, pushed, Beyond}
+use Rattle.pairs.specs.Lent.{found_in, Same, Tried}
+use Rattle.pairs.specs.declared.candidates.Candidates.{Candidates}
 use Rattle.pairs.specs.Elements.{All}
 use Rattle.pairs.specs.Strips.{Candidate}
 use Rattle.lists.proofs.Cases.{below_or}
 use Rattle.pairs.proofs.Elements.{all_map}
 use Rattle.pairs.proofs.Rearranged.{candidates_from}
+use Rattle.pairs.proofs.Lent.{same_self, same_on}
 use Rattle.pairs.proofs.Laying.{laid_set, laid_long, stays, then, later, stored}
 
 -- ---- one push
@@ -27,32 +31,64 @@ unfolding pushed
 pushed_full cap d ix [] = refl
 pushed_full cap d ix (p ∷ ps) = ap (λ (s : Found). pushed cap s ps) (push_full cap (cap + 1) d ix p (omega arith)) ∙ pushed_full cap d ix ps
 
-pub pushed_count : (cap n : ℕ) (d : List Float) (ix : List ℕ) (ps : List Pair) → n ≤ cap + 1 → (pushed cap (found n d ix) ps).count ≤ cap + 1
-unfolding pushed
-pushed_count cap n d ix [] h = h
-pushed_count cap n d ix (p ∷ ps) h =
-    ⊎_elim
-    (λ (k : n < cap). subst (λ (s : Found). (pushed cap s ps).count ≤ cap + 1) (sym (push_fits cap n d ix p k)) (pushed_count cap (n + 1) _ _ ps (omega arith)))
-    (λ (k : cap ≤ n). subst (λ (s : Found). (pushed cap s ps).count ≤ cap + 1) (sym (push_full cap n d ix p k)) (pushed_count cap (cap + 1) d ix ps (omega arith)))
-    (below_or n cap)
-
 pub pushed_append : (cap : ℕ) (s : Found) (ps qs : List Pair) → pushed cap s (ps ++ qs) ≡ pushed cap (pushed cap s ps) qs
 unfolding pushed
 pushed_append cap s [] qs = refl
 pushed_append cap s (p ∷ ps) qs = pushed_append cap (push cap s p) ps qs
 
--- of what is to be pushed, a first part was
-module _ (cap m : ℕ) (d : List Float) (ix : List ℕ) (r : ℕ) (d' : List Float) (ix' : List ℕ) (ps qs : List Pair) (end : Found)
-    (whole : pushed cap (found m d ix) (ps ++ qs) ≡ end) (did : found r d' ix' ≡ pushed cap (found m d ix) ps) where
-  pub part_done : pushed cap (found r d' ix') qs ≡ end
-  part_done = ap (λ (s : Found). pushed cap s qs) did ∙ sym (pushed_append cap (found m d ix) ps qs) ∙ whole
+-- a pair that is tried, and those that follow it
+pub within_first : (r2 : Float) (p : Pair) (ps : List Pair) → within r2 p ps ≡ within r2 p [] ++ ps
+unfolding within
+within_first r2 p ps = by (le p.d2 r2) refl
+  where
+    by : (b : Bool) → le p.d2 r2 ≡ b → within r2 p ps ≡ within r2 p [] ++ ps
+    by true e = rw e
+    by false e = rw e
+
+-- ---- a search through the pairs of a list
+
+-- n pairs stand in the lists, and with those of l that are to come they make what is to stand there in the end
+pub record Going (c₀ c : Candidates) (n : ℕ) (l : List Pair) (end : Found) : Type 0 where
+  pub same : Same c₀ c
+  pub fits : n ≤ c₀.cap
+  pub whole : pushed c₀.cap (found_in n c) l ≡ end
+
+pub begun : {c : Candidates} {n : ℕ} {l l' : List Pair} → n ≤ c.cap → l ≡ l' → Going c c n l (pushed c.cap (found_in n c) l')
+begun {c} {n} h e = record { same = same_self c; fits = h; whole = ap (pushed c.cap (found_in n c)) e }
+
+-- the last one was tried
+pub ended : {c₀ c : Candidates} {n : ℕ} {l : List Pair} {end : Found} → Going c₀ c n l end → l ≡ [] → Tried c₀ (Some n) c end
+unfolding pushed
+ended g e = record { same = g.same; pairs = rw e at g.whole; fits = g.fits }
+
+-- a first part was tried
+module _ {c₀ c : Candidates} {n : ℕ} {l : List Pair} (ps qs : List Pair) {end : Found} (g : Going c₀ c n l end) (e : l ≡ ps ++ qs)
+    {o : Option ℕ} {c' : Candidates} (did : Tried c o c' (pushed c.cap (found_in n c) ps)) where
+  whole : pushed c₀.cap (pushed c₀.cap (found_in n c) ps) qs ≡ end
+  whole = sym (pushed_append c₀.cap (found_in n c) ps qs) ∙ (rw e at g.whole)
+
+  -- and fits
+  pub going_on : {r : ℕ} → o ≡ Some r → Going c₀ c' r qs end
+  going_on {r} q =
+      let t : Tried c (Some r) c' (pushed c.cap (found_in n c) ps) = rw q at did in
+      let made : found_in r c' ≡ pushed c₀.cap (found_in n c) ps = rw (← g.same.cap) t.pairs in
+      record {
+        same = same_on g.same t.same;
+        fits = omega (arith, g.same.cap, t.fits);
+        whole = ap (λ (s : Found). pushed c₀.cap s qs) made ∙ whole;
+      }
 
   -- and was too much
-  pub part_full : m ≤ cap → cap < r → found r d' ix' ≡ end
-  part_full k h =
-      let few : r ≤ cap + 1 = rw (ap (λ (s : Found). s.count) did) (pushed_count cap m d ix ps (omega arith)) in
-      let e : r ≡ cap + 1 = omega arith in
-      rw e (sym (pushed_full cap d' ix' qs) ∙ rw e at part_done)
+  pub gone_full : o ≡ None → {a : Option ℕ} → a ≡ None → Tried c₀ a c' end
+  gone_full q {a} p =
+      let t : Tried c None c' (pushed c.cap (found_in n c) ps) = rw q at did in
+      let made : found_in (c₀.cap + 1) c' ≡ pushed c₀.cap (found_in n c) ps = rw (← g.same.cap) t.pairs in
+      rw p
+      (record {
+        same = same_on g.same t.same;
+        pairs = sym (pushed_full c₀.cap c'.distances.now c'.indices.now qs) ∙ ap (λ (s : Found). pushed c₀.cap s qs) made ∙ whole;
+        fits = tt;
+      })
 
 -- ---- a spot's pairs, one prediction more
 
@@ -60,19 +96,11 @@ module _ (r2 : Float) (predicted : List Float) (i : ℕ) (c : Point) (n j : ℕ)
   abbrev pub this : Pair
   this = pair (squared c (point_at predicted j)) i j
 
-  pairs_next : pairs_of r2 predicted i c j (n - j) ≡ within r2 this (pairs_of r2 predicted i c (j + 1) (n - (j + 1)))
+  pub pairs_next : pairs_of r2 predicted i c j (n - j) ≡ within r2 this [] ++ pairs_of r2 predicted i c (j + 1) (n - (j + 1))
   unfolding pairs_of
   pairs_next =
       let e : n - j ≡ suc (n - (j + 1)) = omega arith in
-      rw (e, add-one j)
-
-  pub pairs_taken : le (squared c (point_at predicted j)) r2 ≡ true → pairs_of r2 predicted i c j (n - j) ≡ this ∷ pairs_of r2 predicted i c (j + 1) (n - (j + 1))
-  unfolding within
-  pairs_taken q = pairs_next ∙ rw q
-
-  pub pairs_passed : le (squared c (point_at predicted j)) r2 ≡ false → pairs_of r2 predicted i c j (n - j) ≡ pairs_of r2 predicted i c (j + 1) (n - (j + 1))
-  unfolding within
-  pairs_passed q = pairs_next ∙ rw q
+      rw (e, add-one j) (within_first r2 this (pairs_of r2 predicted i c (suc j) (n - suc j)))
 
 -- ---- all pairs, one spot more
 

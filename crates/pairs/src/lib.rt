@@ -3,47 +3,48 @@
 
 ghost use Rattle.std.specs.Prelude.{◌≡◌, length};
 ghost use Rattle.pairs.specs.Pairs.{pairs, spots_within};
-ghost use Rattle.pairs.specs.Candidates.{capacity, found, pushed};
+ghost use Rattle.pairs.specs.Candidates.{capacity, pushed};
+ghost use Rattle.pairs.specs.Lent.{found_in, Same};
 ghost use Rattle.pairs.specs.Strips.{pairs_nearby, room_after};
 
 mod by_spot; // by_spot.rt: the pairs found, put by spot
+mod candidates; // candidates.rt: the lists that hold them
 mod pairs; // pairs.rt: all pairs, tried in turn
+mod search; // search.rt: what is asked for
 mod strips; // strips.rt: the pairs found by strips
 
 pub use by_spot::put_by_spot;
+pub use candidates::Candidates;
+use search::Search;
 
 // The spots that are looked at: the first `max_points` of them.
 pub fn spots_within(points: &[f64], max_points: usize) -> usize
     ensures { result ≡ spots_within points.now max_points }
 {
-    lists::smaller(points.len() / 2, max_points)
-}
-
-// How many pairs the candidate lists hold.
-fn room_for(distances: &[f64], indices: &[usize]) -> usize
-    ensures { result ≡ capacity distances.now indices.now }
-{
-    lists::smaller(distances.len() / 2, indices.len() / 4)
+    (points.len() / 2).min(max_points)
 }
 
 // Finds the pairs of the spots, the first `max_points` of them, with the predictions, by spot and then prediction. Points are flat, x then y. The
-// pairs are laid in `distances` and `indices`; how many there are is the result, one more than fit where there are more.
+// pairs are laid in the candidate lists; how many there are is the result, one more than fit where there are more.
 pub fn collect(
     points: &[f64],
     max_points: usize,
     predicted: &[f64],
     radius_sq: f64,
-    distances: &mut [f64],
-    indices: &mut [usize],
+    c: &mut Candidates<'_>,
 ) -> usize
-    ensures { found result distances.new indices.new
-        ≡ pushed (capacity distances.old indices.old)
-        (found 0 distances.old indices.old)
-        (pairs points.now max_points predicted.now radius_sq) }
+    ensures { Same c.old c.new
+        × (found_in result c.new
+        ≡ pushed (capacity c.old.distances.now c.old.indices.now) (found_in 0 c.old)
+        (pairs points.now max_points predicted.now radius_sq)) }
 {
-    let np = spots_within(points, max_points);
-    let cap = room_for(&distances[..], &indices[..]);
-    pairs::collect(points, np, predicted, radius_sq, distances, indices, cap)
+    let s = Search {
+        points,
+        np: spots_within(points, max_points),
+        predicted,
+        radius_sq,
+    };
+    pairs::collect(s, c).unwrap_or(c.cap + 1)
 }
 
 // The same pairs in another order, found more quickly: `work` has room, two places for each spot, where the spots are sorted into strips, so that a
@@ -55,26 +56,27 @@ pub fn collect_by_strips(
     max_points: usize,
     predicted: &[f64],
     radius_sq: f64,
-    distances: &mut [f64],
-    indices: &mut [usize],
+    c: &mut Candidates<'_>,
     work: &mut [usize],
 ) -> usize
-    ensures { (found result distances.new indices.new
-        ≡ pushed (capacity distances.old indices.old)
-        (found 0 distances.old indices.old)
+    ensures { Same c.old c.new
+        × (found_in result c.new
+        ≡ pushed (capacity c.old.distances.now c.old.indices.now) (found_in 0 c.old)
         (pairs_nearby points.now max_points predicted.now radius_sq
         (length work.old)))
         × (work.new ≡ room_after points.now max_points work.old) }
 {
-    let np = spots_within(points, max_points);
-    let cap = room_for(&distances[..], &indices[..]);
-    let room = 2 * np;
+    let s = Search {
+        points,
+        np: spots_within(points, max_points),
+        predicted,
+        radius_sq,
+    };
+    let room = 2 * s.np;
     if work.len() < room {
-        return pairs::collect(points, np, predicted, radius_sq, distances, indices, cap);
+        return pairs::collect(s, c).unwrap_or(c.cap + 1);
     }
-    let m = strips::collect(
-        points, np, predicted, radius_sq, distances, indices, cap, work,
-    );
-    lists::clear_numbers(work, room);
-    m
+    let m = strips::collect(s, c, work);
+    lists::clear(work, room);
+    m.unwrap_or(c.cap + 1)
 }

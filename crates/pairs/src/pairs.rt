@@ -1,76 +1,71 @@
 // The candidate pairs, by spot and then prediction.
-ghost use Rattle.std.specs.Prelude.{◌≡◌, ◌+◌, ◌*◌, ◌/◌, ◌≤◌, length};
-ghost use Rattle.pairs.specs.Pairs.{pairs_of, pairs_from};
-ghost use Rattle.pairs.specs.Candidates.{point, found, pushed};
+ghost use Rattle.std.specs.Prelude.{◌≡◌, ◌/◌, ◌<◌, ◌≤◌, [], length};
+ghost use Rattle.rounding.specs.Arith.{◌⊕◌, ◌⊗◌};
+ghost use Rattle.pairs.specs.Pairs.{point_at, within, pairs_of, pairs_from};
+ghost use Rattle.pairs.specs.Candidates.{pair, pushed};
+ghost use Rattle.pairs.specs.Lent.{found_in, Tried};
 
-// The pairs of one spot with the first n predictions go after the m that stand there. One more than `cap` is answered as
-// soon as a pair finds no place.
-fn collect_spot(
-    predicted: &[f64],
-    n: usize,
+use crate::candidates::Candidates;
+use crate::search::Search;
+
+// The pair of a spot and a prediction, dx and dy apart, goes after the n that stand there where it is within the radius. How many stand there then is
+// the answer, none where the pair finds no place.
+// Made part of its callers: theirs are the hottest loops.
+// Stays (no plainer): the count comes in beside the lists and goes out as the answer; in a field of theirs it would stand twice.
+#[inline(always)]
+pub(crate) fn try_pair(
+    dx: f64,
+    dy: f64,
     radius_sq: f64,
     spot: usize,
-    x: f64,
-    y: f64,
-    distances: &mut [f64],
-    indices: &mut [usize],
-    cap: usize,
-    m: usize,
-) -> usize
-    requires { (2 * n ≤ length predicted.now)
-        × (cap ≤ length distances.old)
-        × (2 * cap ≤ length indices.old)
-        × (m ≤ cap) }
-    ensures { found result distances.new indices.new
-        ≡ pushed cap (found m distances.old indices.old)
-        (pairs_of radius_sq predicted.now spot (point x y) 0 n) }
+    prediction: usize,
+    c: &mut Candidates<'_>,
+    n: usize,
+) -> Option<usize>
+    requires { n ≤ c.old.cap }
+    ensures { Tried c.old result c.new
+        (pushed c.old.cap (found_in n c.old) (within radius_sq (pair (dx ⊗ dx ⊕ dy ⊗ dy) spot prediction) [])) }
 {
-    let mut k = m;
-    let mut j: usize = 0;
-    while j < n {
-        let dx = x - predicted[2 * j];
-        let dy = y - predicted[2 * j + 1];
-        let d2 = dx * dx + dy * dy;
-        if d2 <= radius_sq {
-            if cap <= k {
-                return cap + 1;
-            }
-            distances[k] = d2;
-            indices[2 * k] = spot;
-            indices[2 * k + 1] = j;
-            k += 1;
+    let d2 = dx * dx + dy * dy;
+    if d2 <= radius_sq {
+        if c.cap <= n {
+            return None;
         }
-        j += 1;
+        c.distances[n] = d2;
+        c.indices[2 * n] = spot;
+        c.indices[2 * n + 1] = prediction;
+        return Some(n + 1);
     }
-    k
+    Some(n)
 }
 
-// The pairs of the first np spots with all predictions, `cap` of them at most; one more than `cap` where there are more.
-pub(crate) fn collect(
-    points: &[f64],
-    np: usize,
-    predicted: &[f64],
-    radius_sq: f64,
-    distances: &mut [f64],
-    indices: &mut [usize],
-    cap: usize,
-) -> usize
-    requires { (2 * np ≤ length points.now) × (cap ≤ length distances.old) × (2 * cap ≤ length indices.old) }
-    ensures { found result distances.new indices.new
-        ≡ pushed cap (found 0 distances.old indices.old)
-        (pairs_from radius_sq points.now predicted.now 0 np) }
+// The pairs of spot i with all predictions go after the m that stand there. None is answered as soon as a pair finds no place.
+fn collect_spot(s: Search<'_>, i: usize, c: &mut Candidates<'_>, m: usize) -> Option<usize>
+    requires { (i < s.np) × (m ≤ c.old.cap) }
+    ensures { Tried c.old result c.new
+        (pushed c.old.cap (found_in m c.old)
+        (pairs_of s.entry.radius_sq s.entry.predicted.now i (point_at s.entry.points.now i) 0 (length s.entry.predicted.now / 2))) }
 {
-    let n = predicted.len() / 2;
-    let mut m: usize = 0;
-    let mut i: usize = 0;
-    while i < np {
-        let x = points[2 * i];
-        let y = points[2 * i + 1];
-        m = collect_spot(predicted, n, radius_sq, i, x, y, distances, indices, cap, m);
-        if cap < m {
-            return m;
-        }
-        i += 1;
+    let x = s.points[2 * i];
+    let y = s.points[2 * i + 1];
+    let n = s.predicted.len() / 2;
+    let mut k = m;
+    for j in 0..n {
+        let dx = x - s.predicted[2 * j];
+        let dy = y - s.predicted[2 * j + 1];
+        k = try_pair(dx, dy, s.radius_sq, i, j, c, k)?;
     }
-    m
+    Some(k)
+}
+
+// All pairs, as many as the lists hold; none is answered where there are more.
+pub(crate) fn collect(s: Search<'_>, c: &mut Candidates<'_>) -> Option<usize>
+    ensures { Tried c.old result c.new
+        (pushed c.old.cap (found_in 0 c.old) (pairs_from s.entry.radius_sq s.entry.points.now s.entry.predicted.now 0 s.entry.np)) }
+{
+    let mut m: usize = 0;
+    for i in 0..s.np {
+        m = collect_spot(s, i, c, m)?;
+    }
+    Some(m)
 }

@@ -4,7 +4,6 @@ ghost use Rattle.lists.specs.Fronted.{fronted};
 ghost use Rattle.panel.specs.Points.{coordinates};
 
 use crate::spots::spot_at;
-use lists::smaller;
 
 // The points of the first n spots, x then y, at the front of a list: as many of them as it has room for.
 pub fn lay_points(spots: &[f64], n: usize, points: &mut [f64])
@@ -12,12 +11,9 @@ pub fn lay_points(spots: &[f64], n: usize, points: &mut [f64])
         ≡ fronted (coordinates spots.now 0 (min n (length points.old / 2)))
         points.old }
 {
-    let most = smaller(n, points.len() / 2);
-    let mut i: usize = 0;
-    while i < most {
+    for i in 0..n.min(points.len() / 2) {
         let s = spot_at(spots, i);
         points[2 * i] = s.px;
         points[2 * i + 1] = s.py;
-        i += 1;
     }
 }

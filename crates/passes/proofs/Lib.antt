@@ -1,2 +1,1 @@
 pub mod PassSteps
-pub mod Lengths

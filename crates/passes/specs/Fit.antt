@@ -1,5 +1,5 @@
 -- Phase A of a round of `wcs_refine` (wcs_refine.rs): the passes of the fit, with 01's refusal 12. Definitions only. Assumes nothing.
-use Rattle.std.specs.Prelude.{ℕ, zero, suc, Bool, true, false, cond, ◌&&◌, List, ltb, length, Float}
+use Rattle.std.specs.Prelude.{ℕ, zero, suc, Result, Ok, Err, Bool, true, false, cond, ◌&&◌, List, ltb, length, Float}
 use Rattle.std.specs.Float.Ieee.{lt, le}
 use Rattle.rounding.specs.Arith.{◌⊕◌, f64}
 use Rattle.rounding.specs.Methods.{abs_f}
@@ -10,6 +10,7 @@ use Rattle.fit.specs.declared.Pose.{Pose}
 use Rattle.solve.specs.declared.Solution.{Solution}
 use Rattle.solve.specs.declared.Solution.TheVariants.{Solved, Failed}
 use Rattle.passes.specs.declared.Passed.{Passed}
+use Rattle.passes.specs.declared.Unsound.{Unsound}
 
 -- "Update theta and CRVAL" in phase A: theta and the boresight moved by a solution of `ls_fit_once`. The scale stays.
 unfoldable pub moved : Pose → Float → Float → Float → Pose
@@ -68,6 +69,11 @@ fit_passes (suc k) cut rs p =
     cond (ltb (length rs) 3) (record { pose = p; passes = 0; fine = true })
     (passed p (ls_fit_once (view_of p cut) rs) (λ q. fit_passes k cut rs q))
 
--- What the code's passes answer, as the record above.
+-- The code's side: n passes that end at a pose within the bounds, or at the one that left them, as the record above.
+abbrev pub passes_at : ℕ → Result Pose Unsound → Passes
+passes_at n (Ok p) = record { pose = p; passes = n; fine = true }
+passes_at n (Err u) = record { pose = u.pose; passes = n; fine = false }
+
+-- What the code's passes answer, as that record.
 abbrev pub passes_of : Passed → Passes
-passes_of r = record { pose = r.pose; passes = r.passes; fine = r.fine }
+passes_of r = passes_at r.passes r.end

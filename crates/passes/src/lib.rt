@@ -6,7 +6,7 @@ ghost use Rattle.fit.specs.Rows.{rows};
 ghost use Rattle.passes.specs.Fit.{moved, sound, still, fit_passes, passes_of};
 
 use fit::{Pose, ls_fit_once};
-use project::inverse_tan_project;
+use project::{Sky, inverse_tan_project};
 use rounding::abs;
 use solve::Solution;
 
@@ -20,47 +20,51 @@ const CONVERGENCE_RAD: f64 = 1e-12;
 
 const MOST_PASSES: usize = 10;
 
-// The pose after the passes, how many there were, and whether it stayed within the bounds.
-#[derive(Drop)]
-pub struct Passed {
+// The passes' pose left its bounds.
+#[derive(Clone, Copy)]
+pub struct Unsound {
     pub pose: Pose,
+}
+
+// How many passes there were, and the pose after them.
+#[derive(Clone, Copy)]
+pub struct Passed {
     pub passes: usize,
-    pub fine: bool,
+    pub end: Result<Pose, Unsound>,
 }
 
 // Theta and the boresight moved by a solution.
+#[tactic(auto, unfolding(crate::specs::Fit::moved))]
 pub fn moved(p: Pose, d_theta: f64, d_xi: f64, d_eta: f64) -> Pose
     ensures { result ≡ moved p d_theta d_xi d_eta }
 {
-    let s = inverse_tan_project(d_xi, d_eta, p.ra, p.dec);
+    let Sky { ra, dec } = inverse_tan_project(d_xi, d_eta, p.ra, p.dec);
     Pose {
         theta: p.theta + d_theta,
-        ra: s.ra,
-        dec: s.dec,
-        scale: p.scale,
+        ra,
+        dec,
+        ..p
     }
 }
 
 // A NaN is not at most the bound.
+#[tactic(auto, unfolding(crate::specs::Fit::sound))]
 pub fn is_sound(p: Pose) -> bool
     ensures { result ≡ sound p }
 {
-    let theta = abs(p.theta);
-    let ra = abs(p.ra);
-    let dec = abs(p.dec);
-    theta <= MOST && ra <= MOST && dec <= MOST
+    abs(p.theta) <= MOST && abs(p.ra) <= MOST && abs(p.dec) <= MOST
 }
 
+#[tactic(auto, unfolding(crate::specs::Fit::still))]
 pub fn is_still(d_theta: f64, d_xi: f64, d_eta: f64) -> bool
     ensures { result ≡ still d_theta d_xi d_eta }
 {
-    let theta = abs(d_theta);
-    let offset = abs(d_xi) + abs(d_eta);
-    theta < STILL_THETA && offset < CONVERGENCE_RAD
+    abs(d_theta) < STILL_THETA && abs(d_xi) + abs(d_eta) < CONVERGENCE_RAD
 }
 
 // At most ten passes over the matches. A failed one is counted and ends them, and so does one after which the fit is still or the pose is
 // not sound.
+// Stays (form of 01): spots, directions and matches are lent as flat lists, each by itself, in the Rust's order.
 pub fn fit_passes(
     matches: &[usize],
     directions: &[f32],
@@ -71,46 +75,38 @@ pub fn fit_passes(
     ensures { passes_of result ≡ fit_passes 10 cut
         (rows spots.now directions.now matches.now) pose }
 {
-    let n = matches.len() / 2;
     let mut p = pose;
-    let mut i: usize = 0;
-    if n < 3 {
+    if matches.len() / 2 < 3 {
         return Passed {
-            pose: p,
             passes: 0,
-            fine: true,
+            end: Ok(p),
         };
     }
-    while i < MOST_PASSES {
+    for i in 0..MOST_PASSES {
         let s = ls_fit_once(matches, directions, spots, p, cut);
         let Solution::Solved(d_theta, d_xi, d_eta) = s else {
             return Passed {
-                pose: p,
                 passes: i + 1,
-                fine: true,
+                end: Ok(p),
             };
         };
         let q = moved(p, d_theta, d_xi, d_eta);
         if !is_sound(q) {
             return Passed {
-                pose: q,
                 passes: i + 1,
-                fine: false,
+                end: Err(Unsound { pose: q }),
             };
         }
         if is_still(d_theta, d_xi, d_eta) {
             return Passed {
-                pose: q,
                 passes: i + 1,
-                fine: true,
+                end: Ok(q),
             };
         }
         p = q;
-        i += 1;
     }
     Passed {
-        pose: p,
-        passes: i,
-        fine: true,
+        passes: MOST_PASSES,
+        end: Ok(p),
     }
 }

@@ -1,17 +1,19 @@
 -- Text laid into a list piece by piece: two pieces are one, a list of things goes one by one, and all of it is `set_from`. Assumes nothing.
 use mathlib.Core.Path.{◌≡◌, refl, sym, ap, ◌∙◌}
 use mathlib.Core.Bool.{Bool, cond}
-use mathlib.Core.List.{List, [], ◌∷◌, ◌++◌}
+use mathlib.Core.List.{List, [], ◌∷◌, ◌++◌, append_assoc}
 use mathlib.Core.Logic.{⊎_elim}
 use Prim.Native.Nat.{ℕ, suc, ◌+◌, ◌≤◌, ◌<◌, min}
 use native.Mathlib.Nat.{eq-or-lt_of_le}
 use native.Mathlib.Numerals.{add-one}
 use native.Mathlib.Omega.{arith}
 use borrow.Author.Tests.{lt-ltb, le-ltb}
-use lib.ListN.{length, get_or, set, drop, length-set, drop_of_length-le}
-use lib.Seq.{drop-cons, set_out}
+use lib.ListN.{length, get_or, set, take, length-set}
+use lib.Seq.{take_all, set_out}
+use Rattle.std.proofs.lemmas.List.{take_more}
 use Rattle.printing.specs.Text.{set_from}
-use Rattle.printing.specs.Laying.{Laid, laid, put, pushed, Lays}
+use Rattle.printing.specs.Laying.{Laid, laid, put, pushed, Lays, Writes}
+use Rattle.printing.specs.declared.laying.Writer.{Writer}
 
 -- ---- one byte
 
@@ -49,26 +51,34 @@ then {s} {t} {x} e f = record { so = f.so ∙ ap (pushed t) e.so ∙ sym (pushed
 pub as_text : {s t : List ℕ} {x y : Laid} → s ≡ t → Lays s x y → Lays t x y
 as_text {x = x} e f = record { so = f.so ∙ ap (λ (l : List ℕ). pushed l x) e }
 
--- What is left once the first piece is laid.
-pub after : {s t : List ℕ} {x y z : Laid} → Lays s x y → Lays (s ++ t) x z → Lays t y z
-after {s} {t} {x} e f = record { so = f.so ∙ pushed_append s t x ∙ ap (pushed t) (sym e.so) }
+-- ---- a writer
 
-pub begun : (text : List ℕ) (x : Laid) → Lays text x (pushed text x)
-begun text x = record { so = refl }
+pub write_nothing : {w : Writer} → Writes [] w w
+write_nothing = record { same = refl; lays = nothing _ }
+
+pub then_write : {s t : List ℕ} {x y z : Writer} → Writes s x y → Writes t y z → Writes (s ++ t) x z
+then_write e f = record { same = f.same ∙ e.same; lays = then e.lays f.lays }
+
+pub write_as : {s t : List ℕ} {x y : Writer} → s ≡ t → Writes s x y → Writes t x y
+write_as e f = record { same = f.same; lays = as_text e f.lays }
 
 -- Text f of a list, of one thing after the other.
-module _ {A : Type 0} (f : List A → List ℕ) (f_cons : (a : A) (xs : List A) → f (a ∷ xs) ≡ f (a ∷ []) ++ f xs) (xs : List A) (i : ℕ) {whole s : Laid}
-    (rest : Lays (f (drop i xs)) s whole) where
-  pub turn : (d : A) {s' : Laid} → i < length xs → Lays (f (get_or xs i d ∷ [])) s s' → Lays (f (drop (i + 1) xs)) s' whole
-  turn d h e =
-      let a = get_or xs i d in
-      let more : List A = drop (suc i) xs in
-      let split : f (drop i xs) ≡ f (a ∷ []) ++ f more = ap f (drop-cons xs i d h) ∙ f_cons a more in
-      as_text (ap (λ (k : ℕ). f (drop k xs)) (sym (add-one i))) (after e (as_text split rest))
+module _ {A : Type 0} (f : List A → List ℕ) (none : f [] ≡ []) (more : (a : A) (xs : List A) → f (a ∷ xs) ≡ f (a ∷ []) ++ f xs) (xs : List A) where
+  joined : (s t : List A) → f (s ++ t) ≡ f s ++ f t
+  joined [] t = ap (λ (l : List ℕ). l ++ f t) (sym none)
+  joined (a ∷ s) t =
+      more a (s ++ t) ∙ ap (λ (l : List ℕ). f (a ∷ []) ++ l) (joined s t) ∙ sym (append_assoc (f (a ∷ [])) (f s) (f t))
+      ∙ ap (λ (l : List ℕ). l ++ f t) (sym (more a s))
 
-  pub turns_end : {text : List ℕ} {x : Laid} → f [] ≡ [] → length xs ≤ i → Lays text x whole → Lays text x s
-  unfolding pushed
-  turns_end e h all = record { so = sym (rest.so ∙ ap (λ (t : List ℕ). pushed t s) (ap f (drop_of_length-le xs h) ∙ e)) ∙ all.so }
+  pub first_piece : {w : Writer} → Writes (f (take 0 xs)) w w
+  first_piece = write_as (sym none) write_nothing
+
+  pub next_piece : {v w x : Writer} (i : ℕ) (d : A) → i < length xs → Writes (f (take i xs)) v w → Writes (f (get_or xs i d ∷ [])) w x
+      → Writes (f (take (i + 1) xs)) v x
+  next_piece i d h e g = write_as (sym (ap f (take_more xs i d h) ∙ joined (take i xs) (get_or xs i d ∷ []))) (then_write e g)
+
+  pub all_pieces : {v w : Writer} (i : ℕ) → length xs ≤ i → Writes (f (take i xs)) v w → Writes (f xs) v w
+  all_pieces i h e = write_as (ap f (take_all i xs h)) e
 
 -- ---- all of it
 

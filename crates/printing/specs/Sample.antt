@@ -4,7 +4,7 @@ use Prim.Native.Char.{code}
 use Prim.Native.String.{String, [] as []ˢ, ◌∷◌ as ◌∷ˢ◌}
 use Rattle.std.specs.Float.Ieee.{of_bits, to_bits}
 use Rattle.rounding.specs.Arith.{f64, zero64}
-use Rattle.wcs_refine.specs.declared.WcsRefineResult.{WcsRefineResult}
+use Rattle.wcs_refine.specs.Returned.{Values}
 use Rattle.printing.specs.Text.{refused_text, match_lines, answer_text}
 
 -- The bytes of a text; each character of the sample is one byte.
@@ -22,7 +22,7 @@ abbrev pub endless : Float
 endless = f64 0x7FF0000000000000
 
 -- What the call on 01's sample record answers: no spots, matches or directions, so the start pose is handed back.
-abbrev pub sample_answer : WcsRefineResult
+abbrev pub sample_answer : Values
 sample_answer = record {
   refusal = 0;
   matches = 0;
@@ -31,12 +31,9 @@ sample_answer = record {
   queries = 0;
   comparisons = 0;
   pose = record { theta = zero64; ra = zero64; dec = zero64; scale = tick };
-  cd0 = tick ∷ f64 0x8000000000000000 ∷ [];
-  cd1 = zero64 ∷ tick ∷ [];
+  cd = (tick ∷ f64 0x8000000000000000 ∷ []) ∷ (zero64 ∷ tick ∷ []) ∷ [];
   rmse_rad = zero64;
-  cov0 = endless ∷ zero64 ∷ zero64 ∷ [];
-  cov1 = zero64 ∷ endless ∷ zero64 ∷ [];
-  cov2 = zero64 ∷ zero64 ∷ endless ∷ [];
+  cov = (endless ∷ zero64 ∷ zero64 ∷ []) ∷ (zero64 ∷ endless ∷ zero64 ∷ []) ∷ (zero64 ∷ zero64 ∷ endless ∷ []) ∷ [];
 }
 
 -- 01's five lines.

@@ -1,8 +1,9 @@
 -- What the program prints of an answer, byte by byte: 01, "The program `refine` reads a record on standard input and prints." Definitions only. Assumes nothing.
-use Rattle.std.specs.Prelude.{ℕ, zero, suc, ◌+◌, ◌/◌, ◌%◌, cond, List, [], ◌∷◌, ◌++◌, ltb, get_or, set, Float}
-use Rattle.std.specs.Float.{nan, binary64}
+use Rattle.std.specs.Prelude.{ℕ, zero, suc, ◌+◌, ◌/◌, ◌%◌, cond, List, [], ◌∷◌, ◌++◌, ltb, set, Float}
+use Rattle.std.specs.Float.{binary64}
 use Rattle.std.specs.Float.Ieee.{to_bits}
-use Rattle.wcs_refine.specs.declared.WcsRefineResult.{WcsRefineResult}
+use Rattle.solve.specs.Vector.{entry}
+use Rattle.wcs_refine.specs.Returned.{Values}
 
 -- ---- numbers
 
@@ -40,17 +41,18 @@ space = 32
 abbrev pub newline : ℕ
 newline = 10
 
--- A space before each.
-unfoldable pub counts : List ℕ → List ℕ
-unfolding decimal
-counts [] = []
-counts (n ∷ ns) = space ∷ decimal n ++ counts ns
+-- A space before the text of each.
+unfoldable pub spaced : {A : Type 0} → (A → List ℕ) → List A → List ℕ
+spaced text [] = []
+spaced text (x ∷ xs) = space ∷ text x ++ spaced text xs
+
+-- Numbers, a space before each.
+abbrev pub counts : List ℕ → List ℕ
+counts ns = spaced decimal ns
 
 -- The same of floats.
-unfoldable pub floats : List Float → List ℕ
-unfolding bits_text
-floats [] = []
-floats (x ∷ xs) = space ∷ bits_text x ++ floats xs
+abbrev pub floats : List Float → List ℕ
+floats xs = spaced bits_text xs
 
 -- A line: its word, what follows, and the end of the line.
 abbrev pub line : List ℕ → List ℕ → List ℕ
@@ -58,7 +60,7 @@ line word more = word ++ more ++ newline ∷ []
 
 -- "Then a line `m`, spot, direction for each match."
 unfoldable pub match_lines : List ℕ → List ℕ
-unfolding counts
+unfolding spaced decimal
 match_lines [] = []
 match_lines (s ∷ []) = []
 match_lines (s ∷ d ∷ ms) = line (109 ∷ []) (counts (s ∷ d ∷ [])) ++ match_lines ms
@@ -86,24 +88,24 @@ no_word = 110 ∷ 111 ∷ []
 
 -- "Refused: `no` and the number."
 unfoldable pub refused_text : ℕ → List ℕ
-unfolding counts
+unfolding spaced decimal
 refused_text n = line no_word (counts (n ∷ []))
 
 -- "Fields: matches, rounds, passes, queries; theta, RA, Dec, scale; `rms` gives the error, `rmse_rad`; `cd` and `cov` give the two matrices by rows."
-unfoldable pub accepted_text : WcsRefineResult → List ℕ → List ℕ
-unfolding counts floats match_lines
+unfoldable pub accepted_text : Values → List ℕ → List ℕ
+unfolding spaced decimal bits_text match_lines
 accepted_text r ms =
     line ok_word (counts (r.matches ∷ r.rounds ∷ r.passes ∷ r.queries ∷ []))
     ++ line pose_word (floats (r.pose.theta ∷ r.pose.ra ∷ r.pose.dec ∷ r.pose.scale ∷ []))
-    ++ line cd_word (floats (get_or r.cd0 0 nan ∷ get_or r.cd0 1 nan ∷ get_or r.cd1 0 nan ∷ get_or r.cd1 1 nan ∷ []))
+    ++ line cd_word (floats (entry r.cd 0 0 ∷ entry r.cd 0 1 ∷ entry r.cd 1 0 ∷ entry r.cd 1 1 ∷ []))
     ++ line rms_word (floats (r.rmse_rad ∷ []))
-    ++ line cov_word (floats (get_or r.cov0 0 nan ∷ get_or r.cov0 1 nan ∷ get_or r.cov0 2 nan
-    ∷ get_or r.cov1 0 nan ∷ get_or r.cov1 1 nan ∷ get_or r.cov1 2 nan
-    ∷ get_or r.cov2 0 nan ∷ get_or r.cov2 1 nan ∷ get_or r.cov2 2 nan ∷ []))
+    ++ line cov_word (floats (entry r.cov 0 0 ∷ entry r.cov 0 1 ∷ entry r.cov 0 2
+    ∷ entry r.cov 1 0 ∷ entry r.cov 1 1 ∷ entry r.cov 1 2
+    ∷ entry r.cov 2 0 ∷ entry r.cov 2 1 ∷ entry r.cov 2 2 ∷ []))
     ++ match_lines ms
 
 -- The text of an answer, with the matches that it reports.
-unfoldable pub answer_text : WcsRefineResult → List ℕ → List ℕ
+unfoldable pub answer_text : Values → List ℕ → List ℕ
 unfolding refused_text accepted_text
 answer_text r ms = cond (ltb 0 r.refusal) (refused_text r.refusal) (accepted_text r ms)
 

@@ -1,26 +1,30 @@
-// Bytes laid into a lent list, as far as it has places. Each function takes the place of its first byte and gives the place after its last.
+// Bytes laid into a lent list, as far as it has places.
 ghost use Rattle.std.specs.Prelude.{[], ◌∷◌};
-ghost use Rattle.printing.specs.Laying.{laid, Lays};
+ghost use Rattle.printing.specs.Laying.{Writes};
 
-// A byte that finds no place is lost, and the place stays.
-pub(crate) fn push_byte(b: u8, out: &mut [u8], at: usize) -> usize
-    ensures { Lays (b ∷ []) (laid at out.old) (laid result out.new) }
-{
-    if at < out.len() {
-        out[at] = b;
-        return at + 1;
-    }
-    at
+// A lent list of bytes, and the place where the next byte goes.
+#[derive(Drop)]
+pub(crate) struct Writer<'a> {
+    pub room: &'a mut [u8],
+    pub at: usize,
 }
 
-pub(crate) fn push_bytes(text: &[u8], out: &mut [u8], at: usize) -> usize
-    ensures { Lays text.now (laid at out.old) (laid result out.new) }
-{
-    let mut to = at;
-    let mut i: usize = 0;
-    while i < text.len() {
-        to = push_byte(text[i], out, to);
-        i += 1;
+impl Writer<'_> {
+    // A byte that finds no place is lost.
+    pub(crate) fn push_byte(&mut self, b: u8)
+        ensures { Writes (b ∷ []) self.old self.new }
+    {
+        if self.at < self.room.len() {
+            self.room[self.at] = b;
+            self.at += 1;
+        }
     }
-    to
+
+    pub(crate) fn push_bytes(&mut self, text: &[u8])
+        ensures { Writes text.now self.old self.new }
+    {
+        for &b in text {
+            self.push_byte(b);
+        }
+    }
 }

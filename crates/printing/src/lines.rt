@@ -1,88 +1,64 @@
 // Lines: a word, numbers with a space before each, and the end of the line.
-ghost use Rattle.std.specs.Prelude.{[], ◌∷◌};
-ghost use Rattle.printing.specs.Laying.{laid, Lays};
-ghost use Rattle.printing.specs.Text.{counts, floats, line, match_lines};
+ghost use Rattle.std.specs.Prelude.{List, ℕ};
+ghost use Rattle.printing.specs.Laying.{Writes};
+ghost use Rattle.printing.specs.Text.{decimal, bits_text, spaced, line, match_lines};
 
-use crate::laying::{push_byte, push_bytes};
-use crate::numbers::{push_decimal, push_hex};
+use crate::laying::Writer;
 
 const SPACE: u8 = 32;
 
 const NEWLINE: u8 = 10;
 
-fn push_count(n: usize, out: &mut [u8], at: usize) -> usize
-    ensures { Lays (counts (n ∷ [])) (laid at out.old) (laid result out.new) }
-{
-    let to = push_byte(SPACE, out, at);
-    push_decimal(n, out, to)
+// What stands in a line after its word.
+pub(crate) trait Shown: Copy {
+    ghost text: { Self → List ℕ };
+
+    fn push(self, w: &mut Writer<'_>)
+        ensures { Writes (text self) w.old w.new };
 }
 
-fn push_counts(ns: &[usize], out: &mut [u8], at: usize) -> usize
-    ensures { Lays (counts ns.now) (laid at out.old) (laid result out.new) }
-{
-    let mut to = at;
-    let mut i: usize = 0;
-    while i < ns.len() {
-        to = push_count(ns[i], out, to);
-        i += 1;
+// Counts and indices in decimal,
+impl Shown for usize {
+    ghost text = { decimal };
+
+    fn push(self, w: &mut Writer<'_>) {
+        w.push_decimal(self);
     }
-    to
 }
 
-fn push_float(x: f64, out: &mut [u8], at: usize) -> usize
-    ensures { Lays (floats (x ∷ [])) (laid at out.old) (laid result out.new) }
-{
-    let to = push_byte(SPACE, out, at);
-    push_hex(x, out, to)
-}
+// floats by their bits.
+impl Shown for f64 {
+    ghost text = { bits_text };
 
-fn push_floats(xs: &[f64], out: &mut [u8], at: usize) -> usize
-    ensures { Lays (floats xs.now) (laid at out.old) (laid result out.new) }
-{
-    let mut to = at;
-    let mut i: usize = 0;
-    while i < xs.len() {
-        to = push_float(xs[i], out, to);
-        i += 1;
+    fn push(self, w: &mut Writer<'_>) {
+        w.push_hex(self);
     }
-    to
 }
 
-pub(crate) fn count_line(word: &[u8], ns: &[usize], out: &mut [u8], at: usize) -> usize
-    ensures { Lays (line word.now (counts ns.now))
-        (laid at out.old) (laid result out.new) }
-{
-    let a = push_bytes(word, out, at);
-    let b = push_counts(ns, out, a);
-    push_byte(NEWLINE, out, b)
-}
-
-pub(crate) fn float_line(word: &[u8], xs: &[f64], out: &mut [u8], at: usize) -> usize
-    ensures { Lays (line word.now (floats xs.now))
-        (laid at out.old) (laid result out.new) }
-{
-    let a = push_bytes(word, out, at);
-    let b = push_floats(xs, out, a);
-    push_byte(NEWLINE, out, b)
-}
-
-fn match_line(spot: usize, direction: usize, out: &mut [u8], at: usize) -> usize
-    ensures { Lays (line (109 ∷ []) (counts (spot ∷ direction ∷ [])))
-        (laid at out.old) (laid result out.new) }
-{
-    let ns = [spot, direction];
-    count_line(b"m", &ns, out, at)
-}
-
-// A line for each match.
-pub(crate) fn match_lines(ms: &[usize], out: &mut [u8], at: usize) -> usize
-    ensures { Lays (match_lines ms.now) (laid at out.old) (laid result out.new) }
-{
-    let mut to = at;
-    let mut i: usize = 0;
-    while 2 <= ms.len() - i {
-        to = match_line(ms[i], ms[i + 1], out, to);
-        i += 2;
+impl Writer<'_> {
+    fn push_all<T: Shown>(&mut self, xs: &[T])
+        ensures { Writes (spaced T.text xs.now) self.old self.new }
+    {
+        for &x in xs {
+            self.push_byte(SPACE);
+            x.push(self);
+        }
     }
-    to
+
+    pub(crate) fn push_line<T: Shown>(&mut self, word: &[u8], xs: &[T])
+        ensures { Writes (line word.now (spaced T.text xs.now)) self.old self.new }
+    {
+        self.push_bytes(word);
+        self.push_all(xs);
+        self.push_byte(NEWLINE);
+    }
+
+    // A line for each match.
+    pub(crate) fn match_lines(&mut self, ms: &[usize])
+        ensures { Writes (match_lines ms.now) self.old self.new }
+    {
+        for m in ms.as_chunks::<2>().0 {
+            self.push_line(b"m", m);
+        }
+    }
 }

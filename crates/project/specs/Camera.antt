@@ -1,6 +1,6 @@
 -- The axes of the camera: `camera_rows_f64`, `tan_basis`, `tan_project_vec`, `rotation_from_theta_crval`, `wcs_to_rotation` (wcs_refine.rs). Definitions only.
 -- Assumes nothing.
-use Rattle.std.specs.Prelude.{ℕ, Bool, cond, List, [], ◌∷◌, pos, Float}
+use Rattle.std.specs.Prelude.{ℕ, Bool, cond, Option, List, [], ◌∷◌, pos, Float}
 use Rattle.std.specs.Float.{binary64}
 use Rattle.std.specs.Float.Ieee.{neg, lt, of_int}
 use Rattle.rounding.specs.Arith.{◌⊖◌, ◌⊗◌, ◌⊘◌, zero64}
@@ -10,7 +10,7 @@ use Rattle.angles.specs.Inverse.{atan}
 use Rattle.solve.specs.Constants.{two}
 use Rattle.solve.specs.Vector.{at, row, entry, dot, norm, normalised, combined, negated}
 use Rattle.project.specs.Project.{divided}
-use Rattle.project.specs.declared.Projected.{Projected}
+use Rattle.project.specs.declared.Plane.{Plane}
 use Rattle.project.specs.declared.WcsRotation.{WcsRotation}
 
 -- The basis of the tangent plane at (ra, dec): east, the Rust's `e_xi`,
@@ -43,7 +43,7 @@ unfolding camera_rows
 tan_basis ra dec = camera_rows zero64 ra dec
 
 -- tan_project_vec: a direction v by its dot products with the basis; widening its f32 components changes no value
-unfoldable pub tan_project_vec : Float → List Float → List (List Float) → Projected
+unfoldable pub tan_project_vec : Float → List Float → List (List Float) → Option Plane
 unfolding dot divided
 tan_project_vec cut v basis = divided cut (dot (row basis 0) v) (dot (row basis 1) v) (dot (row basis 2) v)
 
@@ -84,9 +84,11 @@ field_of_view ps_x width = narrowed (two ⊗ atan (ps_x ⊗ of_int binary64 (pos
 unfoldable pub wcs_to_rotation : List (List Float) → Float → Float → ℕ → WcsRotation
 unfolding raw_x raw_y boresight normalised narrowed_row field_of_view mirrored norm
 wcs_to_rotation cd ra dec width = record {
-  row_x = narrowed_row (normalised (raw_x cd ra dec));
-  row_y = narrowed_row (normalised (raw_y cd ra dec));
-  row_z = narrowed_row (boresight ra dec);
+  rotation =
+      narrowed_row (normalised (raw_x cd ra dec))
+      ∷ narrowed_row (normalised (raw_y cd ra dec))
+      ∷ narrowed_row (boresight ra dec)
+      ∷ [];
   fov = field_of_view (norm (raw_x cd ra dec)) width;
   parity_flip = mirrored cd;
 }

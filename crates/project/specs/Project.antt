@@ -1,5 +1,5 @@
 -- The projections of wcs_refine.rs on angles: `tan_project`, `inverse_tan_project`, `cd_from_theta`, `predict_tanplane`. Definitions only. Assumes nothing.
-use Rattle.std.specs.Prelude.{Bool, true, false, cond, List, [], ◌∷◌, Float}
+use Rattle.std.specs.Prelude.{Bool, true, false, cond, Option, Some, None, List, [], ◌∷◌, Float}
 use Rattle.std.specs.Float.{binary64}
 use Rattle.std.specs.Float.Ieee.{neg, lt, le}
 use Rattle.rounding.specs.Arith.{◌⊕◌, ◌⊖◌, ◌⊗◌, ◌⊘◌, one64}
@@ -8,17 +8,15 @@ use Rattle.rounding.specs.Methods.{clamp_f}
 use Rattle.angles.specs.SinCos.{sin, cos}
 use Rattle.angles.specs.Inverse.{atan, asin, atan2}
 use Rattle.solve.specs.Constants.{plane_cut, tiny, minus_one}
-use Rattle.project.specs.declared.Projected.{Projected}
-use Rattle.project.specs.declared.Projected.TheVariants.{At, Behind}
 use Rattle.project.specs.declared.Sky.{Sky}
 use Rattle.project.specs.declared.Plane.{Plane}
 
 -- What a numerator pair and a denominator project to; on or behind the plane, nothing. A NaN denominator is not at most the cut.
-unfoldable pub divided : Float → Float → Float → Float → Projected
-divided cut xi eta denom = cond (le denom cut) Behind (At (xi ⊘ denom) (eta ⊘ denom))
+unfoldable pub divided : Float → Float → Float → Float → Option Plane
+divided cut xi eta denom = cond (le denom cut) None (Some (record { xi = xi ⊘ denom; eta = eta ⊘ denom }))
 
 -- tan_project: of (ra, dec) onto the tangent plane at (ra0, dec0)
-unfoldable pub tan_project : Float → Float → Float → Float → Projected
+unfoldable pub tan_project : Float → Float → Float → Float → Option Plane
 unfolding divided sin cos
 tan_project ra dec ra0 dec0 =
     let da = ra ⊖ ra0 in

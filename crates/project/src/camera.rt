@@ -1,32 +1,36 @@
 // The axes of the camera, and directions on them.
 ghost use Rattle.std.specs.Prelude.{◌≡◌, cond, [], ◌∷◌};
-ghost use Rattle.solve.specs.Vector.{entry, dot, norm, normalised, combined, negated};
+ghost use Rattle.solve.specs.Vector.{row, entry, dot, norm, normalised, combined, negated};
 ghost use Rattle.project.specs.Camera.{east, north, boresight, camera_rows, tan_basis, tan_project_vec, narrowed_row, rotation_from_theta_crval, mirrored, field_of_view, wcs_to_rotation};
 
-use crate::{Projected, WcsRotation};
-use angles::{atan, sin_cos};
-use rounding::{narrow, sqrt64, widen};
+use crate::{Plane, WcsRotation};
+use angles::{SinCos, atan, sin_cos};
+use rounding::{narrow, sqrt, widen};
 
+#[tactic(auto, unfolding(solve::specs::Vector::dot))]
 pub fn dot(a: [f64; 3], b: [f64; 3]) -> f64
     ensures { result ≡ dot a b }
 {
     a[0] * b[0] + a[1] * b[1] + a[2] * b[2]
 }
 
+#[tactic(auto, unfolding(solve::specs::Vector::norm))]
 fn norm(v: [f64; 3]) -> f64
     ensures { result ≡ norm v }
 {
-    sqrt64(dot(v, v))
+    sqrt(dot(v, v))
 }
 
+#[tactic(auto, unfolding(solve::specs::Vector::normalised))]
 fn normalised(v: [f64; 3]) -> [f64; 3]
     ensures { result ≡ normalised v }
 {
     let n = norm(v);
-    [v[0] / n, v[1] / n, v[2] / n]
+    v.map(|x| x / n)
 }
 
 // a * s + b * t
+#[tactic(auto, unfolding(solve::specs::Vector::combined))]
 fn combined(a: [f64; 3], s: f64, b: [f64; 3], t: f64) -> [f64; 3]
     ensures { result ≡ combined a s b t }
 {
@@ -37,22 +41,26 @@ fn combined(a: [f64; 3], s: f64, b: [f64; 3], t: f64) -> [f64; 3]
     ]
 }
 
+#[tactic(auto, unfolding(solve::specs::Vector::negated))]
 fn negated(v: [f64; 3]) -> [f64; 3]
     ensures { result ≡ negated v }
 {
-    [-v[0], -v[1], -v[2]]
+    v.map(|x| -x)
 }
 
 // The tangent plane at (ra, dec): its axes to the east and to the north, and the boresight.
+#[tactic(auto, unfolding(crate::specs::Camera::east, crate::specs::Camera::north, crate::specs::Camera::boresight))]
 fn plane_at(ra: f64, dec: f64) -> [[f64; 3]; 3]
     ensures { result ≡ east ra ∷ north ra dec ∷ boresight ra dec ∷ [] }
 {
-    let a = sin_cos(ra);
-    let d = sin_cos(dec);
-    let sin_a = a.sin;
-    let cos_a = a.cos;
-    let sin_d = d.sin;
-    let cos_d = d.cos;
+    let SinCos {
+        sin: sin_a,
+        cos: cos_a,
+    } = sin_cos(ra);
+    let SinCos {
+        sin: sin_d,
+        cos: cos_d,
+    } = sin_cos(dec);
     [
         [-sin_a, cos_a, 0.0],
         [-sin_d * cos_a, -sin_d * sin_a, cos_d],
@@ -64,39 +72,36 @@ fn plane_at(ra: f64, dec: f64) -> [[f64; 3]; 3]
 pub fn boresight_of(ra: f64, dec: f64) -> [f64; 3]
     ensures { result ≡ boresight ra dec }
 {
-    let a = sin_cos(ra);
-    let d = sin_cos(dec);
-    let sin_a = a.sin;
-    let cos_a = a.cos;
-    let sin_d = d.sin;
-    let cos_d = d.cos;
-    [cos_d * cos_a, cos_d * sin_a, sin_d]
+    plane_at(ra, dec)[2]
 }
 
 // The camera's axes as rows: x, y and the boresight.
+#[tactic(auto, unfolding(crate::specs::Camera::camera_rows))]
 pub fn camera_rows_f64(theta: f64, crval_ra: f64, crval_dec: f64) -> [[f64; 3]; 3]
     ensures { result ≡ camera_rows theta crval_ra crval_dec }
 {
-    let p = plane_at(crval_ra, crval_dec);
-    let t = sin_cos(theta);
-    let sin_t = t.sin;
-    let cos_t = t.cos;
-    let x = normalised(combined(p[0], cos_t, p[1], sin_t));
-    let y = normalised(combined(p[0], -sin_t, p[1], cos_t));
-    let z = p[2];
-    [x, y, z]
+    let [east, north, boresight] = plane_at(crval_ra, crval_dec);
+    let SinCos {
+        sin: sin_t,
+        cos: cos_t,
+    } = sin_cos(theta);
+    let x = normalised(combined(east, cos_t, north, sin_t));
+    let y = normalised(combined(east, -sin_t, north, cos_t));
+    [x, y, boresight]
 }
 
 // The basis of the tangent plane at (ra, dec): the camera's axes without roll.
+#[tactic(auto, unfolding(crate::specs::Camera::tan_basis))]
 pub fn tan_basis(ra: f64, dec: f64) -> [[f64; 3]; 3]
     ensures { result ≡ tan_basis ra dec }
 {
     camera_rows_f64(0.0, ra, dec)
 }
 
-// Where a direction lies on the tangent plane of a basis. It is asked of every direction in every pass, so the entries are read where they
-// stand, and the denominator is looked at first.
-pub fn tan_project_vec(v: [f32; 3], basis: [[f64; 3]; 3], cut: f64) -> Projected
+// Where a direction lies on the tangent plane of a basis, if it lies in front of it. It is asked of every direction in every pass, so the
+// entries are read where they stand, and the denominator is looked at first.
+#[tactic(auto, unfolding(crate::specs::Camera::tan_project_vec))]
+pub fn tan_project_vec(v: [f32; 3], basis: [[f64; 3]; 3], cut: f64) -> Option<Plane>
     ensures { result ≡ tan_project_vec cut v basis }
 {
     let x = widen(v[0]);
@@ -104,34 +109,41 @@ pub fn tan_project_vec(v: [f32; 3], basis: [[f64; 3]; 3], cut: f64) -> Projected
     let z = widen(v[2]);
     let denom = basis[2][0] * x + basis[2][1] * y + basis[2][2] * z;
     if denom <= cut {
-        return Projected::Behind;
+        return None;
     }
     let xi = basis[0][0] * x + basis[0][1] * y + basis[0][2] * z;
     let eta = basis[1][0] * x + basis[1][1] * y + basis[1][2] * z;
-    Projected::At(xi / denom, eta / denom)
+    Some(Plane {
+        xi: xi / denom,
+        eta: eta / denom,
+    })
 }
 
+#[tactic(auto, unfolding(crate::specs::Camera::narrowed_row))]
 fn narrowed_row(v: [f64; 3]) -> [f32; 3]
     ensures { result ≡ narrowed_row v }
 {
-    let x = narrow(v[0]);
-    let y = narrow(v[1]);
-    let z = narrow(v[2]);
-    [x, y, z]
+    v.map(|x| narrow(x))
+}
+
+// The same of each row of a matrix.
+fn narrowed_rows(m: [[f64; 3]; 3]) -> [[f32; 3]; 3]
+    ensures { result ≡ narrowed_row (row m 0) ∷ narrowed_row (row m 1) ∷ narrowed_row (row m 2) ∷ [] }
+{
+    let [x, y, z] = m;
+    [narrowed_row(x), narrowed_row(y), narrowed_row(z)]
 }
 
 // The rotation from the sky to the camera, in f32.
+#[tactic(auto, unfolding(crate::specs::Camera::rotation_from_theta_crval))]
 pub fn rotation_from_theta_crval(theta: f64, crval_ra: f64, crval_dec: f64) -> [[f32; 3]; 3]
     ensures { result ≡ rotation_from_theta_crval theta crval_ra crval_dec }
 {
-    let m = camera_rows_f64(theta, crval_ra, crval_dec);
-    let x = narrowed_row(m[0]);
-    let y = narrowed_row(m[1]);
-    let z = narrowed_row(m[2]);
-    [x, y, z]
+    narrowed_rows(camera_rows_f64(theta, crval_ra, crval_dec))
 }
 
 // A mirrored image has a negative determinant.
+#[tactic(auto, unfolding(crate::specs::Camera::mirrored))]
 fn mirrored(cd: [[f64; 2]; 2]) -> bool
     ensures { result ≡ mirrored cd }
 {
@@ -139,15 +151,16 @@ fn mirrored(cd: [[f64; 2]; 2]) -> bool
 }
 
 // The camera's x axis before it is normalised, from the plane's axes; negated for a mirrored image.
-fn raw_x(cd: [[f64; 2]; 2], flip: bool, e: [f64; 3], n: [f64; 3]) -> [f64; 3]
-    ensures { result ≡ cond flip (negated (combined e (entry cd 0 0) n (entry cd 1 0)))
+fn raw_x(cd: [[f64; 2]; 2], e: [f64; 3], n: [f64; 3]) -> [f64; 3]
+    ensures { result ≡ cond (mirrored cd) (negated (combined e (entry cd 0 0) n (entry cd 1 0)))
         (combined e (entry cd 0 0) n (entry cd 1 0)) }
 {
     let v = combined(e, cd[0][0], n, cd[1][0]);
-    if flip { negated(v) } else { v }
+    if mirrored(cd) { negated(v) } else { v }
 }
 
 // 2 atan(ps_x * W / 2), in f32.
+#[tactic(auto, unfolding(crate::specs::Camera::field_of_view))]
 fn field_of_view(ps_x: f64, width: u32) -> f32
     ensures { result ≡ field_of_view ps_x width }
 {
@@ -163,18 +176,12 @@ pub fn wcs_to_rotation(
 ) -> WcsRotation
     ensures { result ≡ wcs_to_rotation cd crval_ra crval_dec image_width }
 {
-    let p = plane_at(crval_ra, crval_dec);
-    let flip = mirrored(cd);
-    let x = raw_x(cd, flip, p[0], p[1]);
-    let y = combined(p[0], cd[0][1], p[1], cd[1][1]);
-    let row_x = narrowed_row(normalised(x));
-    let row_y = narrowed_row(normalised(y));
-    let row_z = narrowed_row(p[2]);
+    let [east, north, boresight] = plane_at(crval_ra, crval_dec);
+    let x = raw_x(cd, east, north);
+    let y = combined(east, cd[0][1], north, cd[1][1]);
     WcsRotation {
-        row_x,
-        row_y,
-        row_z,
+        rotation: narrowed_rows([normalised(x), normalised(y), boresight]),
         fov: field_of_view(norm(x), image_width),
-        parity_flip: flip,
+        parity_flip: mirrored(cd),
     }
 }

@@ -16,33 +16,24 @@ pub use project::{cd_from_theta, inverse_tan_project, predict_tanplane, tan_proj
 // A direction whose denominator is at most this lies on or behind the projection plane.
 pub const PLANE_CUT: f64 = 1e-12;
 
-// Where a direction lies on the tangent plane, or that it lies on or behind it.
-#[derive(Drop)]
-pub enum Projected {
-    At(f64, f64),
-    Behind,
-}
-
 // A point of the sky, in radians.
-#[derive(Drop)]
+#[derive(Clone, Copy)]
 pub struct Sky {
     pub ra: f64,
     pub dec: f64,
 }
 
 // A point of the tangent plane, in radians.
-#[derive(Drop)]
+#[derive(Clone, Copy)]
 pub struct Plane {
     pub xi: f64,
     pub eta: f64,
 }
 
 // The camera's axes in f32, by rows, the field of view and the mirror.
-#[derive(Drop)]
+#[derive(Clone, Copy)]
 pub struct WcsRotation {
-    pub row_x: [f32; 3],
-    pub row_y: [f32; 3],
-    pub row_z: [f32; 3],
+    pub rotation: [[f32; 3]; 3],
     pub fov: f32,
     pub parity_flip: bool,
 }

@@ -12,9 +12,13 @@ pub fn is_due(k: Settings, held: Held) -> bool
     ensures { result ≡ due k held }
 {
     if held.filled {
-        let b = held.boresight;
-        let pose = held.pose;
-        return drifted_from(b, held.theta, pose, requery_cos(k), theta_margin(k));
+        return drifted_from(
+            held.boresight,
+            held.theta,
+            held.pose,
+            requery_cos(k),
+            theta_margin(k),
+        );
     }
     true
 }
@@ -24,17 +28,14 @@ pub fn after_query(held: Held, cached: usize, predicted: usize) -> Looked
     ensures { result ≡ afresh held cached predicted }
 {
     let pose = held.pose;
-    let boresight = boresight_of(pose.ra, pose.dec);
-    let now = Held {
-        pose,
-        used: held.used,
-        filled: true,
-        boresight,
-        theta: pose.theta,
-        cached,
-    };
     Looked {
-        held: now,
+        held: Held {
+            filled: true,
+            boresight: boresight_of(pose.ra, pose.dec),
+            theta: pose.theta,
+            cached,
+            ..held
+        },
         predicted,
         queries: 1,
     }

@@ -13,10 +13,7 @@ use rounding::widen;
 fn reaches(x: f64, y: f64, z: f64, cut: f64, r: f64) -> bool
     ensures { result ≡ not (le z cut) && le (x ⊗ x ⊕ y ⊗ y) (r ⊗ r) }
 {
-    if z <= cut {
-        return false;
-    }
-    x * x + y * y <= r * r
+    !(z <= cut) && x * x + y * y <= r * r
 }
 
 fn fall_of(v: [f32; 3], rows: [[f64; 3]; 3], inv: f64, cut: f64, r: f64) -> Fall
@@ -61,17 +58,14 @@ pub fn prune_in_place(
         listed.old listed.new result }
 {
     let inv = 1.0 / scale;
-    let n = listed.len();
-    let mut k: usize = 0;
-    let mut i: usize = 0;
-    while i < n {
+    let mut k = 0;
+    for i in 0..listed.len() {
         let j = listed[i];
         let f = fall_at(directions, j, rows, inv, cut, keep_r);
         if f.inside {
             listed[k] = j;
             k += 1;
         }
-        i += 1;
     }
     k
 }

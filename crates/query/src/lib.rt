@@ -12,6 +12,7 @@ pub use falls::{fall_at, prune_in_place};
 pub use scan::{axis32, least_cos_of, scan_into};
 
 // The pose, how many matches there are, and the cached query: whether there is one, its boresight and roll, and how many directions it lists.
+// Stays (form of 01): `reassoc_cache` "becomes a flag, boresight, theta and a part of the working list".
 #[derive(Clone, Copy)]
 pub struct Held {
     pub pose: Pose,
@@ -31,6 +32,7 @@ pub struct Looked {
 }
 
 // A point of the panel, and whether a direction that falls there reaches it.
+// Stays (no plainer): `fall_at` promises where a direction falls outside too, and with an option of a point that promise would be gone.
 #[derive(Drop)]
 pub struct Fall {
     pub x: f64,

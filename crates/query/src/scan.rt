@@ -6,13 +6,13 @@ ghost use Rattle.query.specs.Listing.{least_cos_of, drifted_from, Fronted};
 
 use angles::cos_f32;
 use fit::Pose;
-use lists::smaller;
 use project::{boresight_of, dot};
-use rounding::{abs, narrow, sqrt32};
+use rounding::{abs, narrow, sqrt};
 
 // PI as an f32 has it.
 const PI: f32 = 3.14159274;
 
+// Stays (no plainer): one product over both widths would call methods for * and +, which `Binary` would get for this line alone.
 fn dot32(a: [f32; 3], b: [f32; 3]) -> f32
     ensures { result ≡ dot32 a b }
 {
@@ -26,14 +26,16 @@ pub fn axis32(b: [f64; 3]) -> [f32; 3]
     let x = narrow(b[0]);
     let y = narrow(b[1]);
     let z = narrow(b[2]);
-    let n = sqrt32(dot32([x, y, z], [x, y, z]));
+    let n = sqrt(dot32([x, y, z], [x, y, z]));
     if 0.0 < n {
-        return [x / n, y / n, z / n];
+        [x / n, y / n, z / n]
+    } else {
+        [1.0, 0.0, 0.0]
     }
-    [1.0, 0.0, 0.0]
 }
 
 // Rust's clamp; a NaN stays.
+// Stays (no plainer): one `clamp` over both widths would call a method for <, which `Binary` would get for it alone.
 fn clamp32(x: f32, lo: f32, hi: f32) -> f32
     ensures { result ≡ clamp_f x lo hi }
 {
@@ -57,25 +59,22 @@ pub fn scan_into(directions: &[f32], axis: [f32; 3], least: f32, out: &mut [usiz
         (min (length directions.now / 3) (length out.old)))
         out.old out.new result }
 {
-    let n = smaller(directions.len() / 3, out.len());
-    let x = axis[0];
-    let y = axis[1];
-    let z = axis[2];
-    let mut k: usize = 0;
-    let mut j: usize = 0;
-    while j < n {
+    let n = (directions.len() / 3).min(out.len());
+    let [x, y, z] = axis;
+    let mut k = 0;
+    for j in 0..n {
         let at = 3 * j;
         let d = x * directions[at] + y * directions[at + 1] + z * directions[at + 2];
         if least <= d {
             out[k] = j;
             k += 1;
         }
-        j += 1;
     }
     k
 }
 
 // Whether the pose has left the boresight or the roll of the last query too far behind.
+#[tactic(auto, unfolding(crate::specs::Listing::drifted_from))]
 pub(crate) fn drifted_from(
     b: [f64; 3],
     theta: f64,
@@ -86,8 +85,5 @@ pub(crate) fn drifted_from(
     ensures { result ≡ drifted_from b theta pose requery_cos theta_margin }
 {
     let now = boresight_of(pose.ra, pose.dec);
-    if dot(b, now) < requery_cos {
-        return true;
-    }
-    theta_margin < abs(pose.theta - theta)
+    dot(b, now) < requery_cos || theta_margin < abs(pose.theta - theta)
 }

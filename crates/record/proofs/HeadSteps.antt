@@ -1,22 +1,26 @@
 -- The head of a record, number by number, and the header that it makes. Assumes nothing.
 use mathlib.Core.Path.{◌≡◌, refl, sym, ap, subst, ◌∙◌}
-use Prim.Native.Nat.{ℕ, zero, suc, ◌+◌, ◌^◌, ◌≤◌, ◌<◌}
+use Prim.Native.Nat.{ℕ, zero, suc, ◌+◌, ◌-◌, ◌^◌, ◌≤◌, ◌<◌}
 use native.Mathlib.Omega.{arith}
-use mathlib.Core.List.{List}
+use Rattle.std.specs.Prelude.{Err}
+use mathlib.Core.List.{List, [], ◌∷◌, map}
+use Rattle.std.proofs.lemmas.List.{get_or-map}
+use lib.Pow.{pow_pos}
 use native.Mathlib.Numerals.{add-one}
 use lib.Dec.{eqb}
 use lib.ListN.{length, get_or, take, drop, set, replicate, get_or-replicate, length-set, drop_of_length-le}
-use lib.Seq.{drop-cons, take-suc-set, take_all, drop-drop, get_or-drop}
+use lib.Seq.{drop-cons, take-suc-set, take_all, get_or-drop}
 use lib.Ieee.{Float, binary32, binary64, of_bits}
-use Rattle.record.specs.declared.Numbered.TheVariants.{Got, Short, Wrong}
-use Rattle.record.specs.Number.{number}
+use Rattle.refusal.specs.declared.Refusal.{Refusal}
+use Rattle.refusal.specs.Number.{number_of}
+use Rattle.record.specs.Number.{number, numbered}
 use Rattle.record.specs.Reading.{values, fault, numbers}
 use Rattle.record.specs.Head.{head_spots, head_matches, head_directions, head_mirror, head_scale, head_radius, head_cut}
 use Rattle.record.specs.Head.{head_limit, head_rounds, head_rotation, head_size, head_bits, place}
 use Rattle.record.specs.Header.{rotation_row}
 use Rattle.record.specs.Passes.{Fit, header_from}
 use Rattle.record.specs.declared.Header.{Header}
-use Rattle.record.proofs.RunSteps.{ahead, one, one_got, one_short, one_wrong, numbers_one, ahead_none, ahead_first}
+use Rattle.record.proofs.RunSteps.{past, past_is, ahead, one, one_got, one_refused, numbers_one, ahead_none, ahead_first}
 
 pub other_bits : (i : ℕ) → i < head_size → (i ≡ head_mirror → ⊥) → (i ≡ head_scale → ⊥) → (i ≡ head_cut → ⊥) → get_or head_bits i 0 ≡ 32
 other_bits zero h f g k = refl
@@ -30,45 +34,46 @@ other_bits (suc (suc (suc (suc (suc (suc (suc zero))))))) h f g k = refl
 other_bits (suc (suc (suc (suc (suc (suc (suc (suc zero)))))))) h f g k = refl
 other_bits (suc (suc (suc (suc (suc (suc (suc (suc (suc i))))))))) h f g k = get_or-replicate 9 i 32 0 (omega arith)
 
--- ---- the loop: the first i numbers are read, and from the place `to` on what is left
+-- The greatest number of each place.
+pub top_is : (i : ℕ) → i < head_size → get_or (map (λ (b : ℕ). 2 ^ b - 1) head_bits) i 0 + 1 ≡ 2 ^ get_or head_bits i 0
+top_is i h = omega (arith, get_or-map (λ (b : ℕ). 2 ^ b - 1) head_bits i 0 0 h, pow_pos (get_or head_bits i 0))
 
-pub record Heading (bytes h : List ℕ) (to i : ℕ) : Type 0 where
+-- ---- the loop: the first i numbers are read, and what is left lies in `rest`
+
+pub record Heading (bytes h rest : List ℕ) (i : ℕ) : Type 0 where
   pub size : length h ≡ head_size
   pub inside : i ≤ head_size
-  pub is : numbers head_bits bytes ≡ ahead (take i h) (numbers (drop i head_bits) (drop to bytes))
+  pub is : numbers head_bits bytes ≡ ahead (take i h) (numbers (drop i head_bits) rest)
 
-pub heading_first : (bytes : List ℕ) → Heading bytes (replicate head_size 0) 0 0
+pub heading_first : (bytes : List ℕ) → Heading bytes (replicate head_size 0) bytes 0
 heading_first bytes = record { size = refl; inside = omega arith; is = ahead_first (numbers head_bits bytes) }
 
-module _ (bytes h : List ℕ) (to i : ℕ) (p : Heading bytes h to i) where
-  pub headed : head_size ≤ i → numbers head_bits bytes ≡ values h (drop to bytes)
+module _ (bytes h rest : List ℕ) (i : ℕ) (p : Heading bytes h rest i) where
+  pub headed : head_size ≤ i → numbers head_bits bytes ≡ values h rest
   unfolding numbers
   headed k =
-      p.is ∙ ap (λ (bs : List ℕ). ahead (take i h) (numbers bs (drop to bytes))) (drop_of_length-le head_bits k)
-      ∙ ahead_none (take i h) (drop to bytes) ∙ ap (λ (l : List ℕ). values l (drop to bytes)) (take_all i h (omega (arith, p.size)))
+      p.is ∙ ap (λ (bs : List ℕ). ahead (take i h) (numbers bs rest)) (drop_of_length-le head_bits k)
+      ∙ ahead_none (take i h) rest ∙ ap (λ (l : List ℕ). values l rest) (take_all i h (omega (arith, p.size)))
 
   module _ (k : i < head_size) where
-    open_one : numbers head_bits bytes ≡ ahead (take i h) (one (get_or head_bits i 0) (drop to bytes) (numbers (drop (suc i) head_bits)))
+    open_one : numbers head_bits bytes ≡ ahead (take i h) (one (get_or head_bits i 0) rest (numbers (drop (suc i) head_bits)))
     open_one =
-        p.is ∙ ap (λ (bs : List ℕ). ahead (take i h) (numbers bs (drop to bytes))) (drop-cons head_bits i 0 k)
-        ∙ ap (ahead (take i h)) (numbers_one (get_or head_bits i 0) (drop (suc i) head_bits) (drop to bytes))
+        p.is ∙ ap (λ (bs : List ℕ). ahead (take i h) (numbers bs rest)) (drop-cons head_bits i 0 k)
+        ∙ ap (ahead (take i h)) (numbers_one (get_or head_bits i 0) (drop (suc i) head_bits) rest)
 
-    pub heading_on : {v n : ℕ} → number (get_or head_bits i 0) (drop to bytes) ≡ Got v n → Heading bytes (set h i v) (to + n) (i + 1)
+    pub heading_on : {v n : ℕ} → number (get_or head_bits i 0) rest ≡ numbered v n → Heading bytes (set h i v) (past n rest) (i + 1)
     heading_on {v} {n} e = record {
       size = length-set h i v ∙ p.size;
       inside = omega arith;
       is =
-          open_one ∙ one_got (get_or head_bits i 0) (drop to bytes) (numbers (drop (suc i) head_bits)) (take i h) e
-          ∙ ap (λ (l : List ℕ). ahead l (numbers (drop (suc i) head_bits) (drop n (drop to bytes)))) (sym (take-suc-set h i v (omega (arith, p.size))))
-          ∙ ap (λ (l : List ℕ). ahead (take (suc i) (set h i v)) (numbers (drop (suc i) head_bits) l)) (drop-drop n to bytes)
-          ∙ ap (λ (j : ℕ). ahead (take j (set h i v)) (numbers (drop j head_bits) (drop (to + n) bytes))) (sym (add-one i));
+          open_one ∙ one_got (get_or head_bits i 0) rest (numbers (drop (suc i) head_bits)) (take i h) e
+          ∙ ap (λ (l : List ℕ). ahead l (numbers (drop (suc i) head_bits) (drop n rest))) (sym (take-suc-set h i v (omega (arith, p.size))))
+          ∙ ap (λ (j : ℕ). ahead (take j (set h i v)) (numbers (drop j head_bits) (drop n rest))) (sym (add-one i))
+          ∙ ap (λ (l : List ℕ). ahead (take (i + 1) (set h i v)) (numbers (drop (i + 1) head_bits) l)) (past_is n rest);
     }
 
-    pub heading_short : number (get_or head_bits i 0) (drop to bytes) ≡ Short → numbers head_bits bytes ≡ fault 2
-    heading_short e = open_one ∙ one_short (get_or head_bits i 0) (drop to bytes) (numbers (drop (suc i) head_bits)) (take i h) e
-
-    pub heading_wrong : number (get_or head_bits i 0) (drop to bytes) ≡ Wrong → numbers head_bits bytes ≡ fault 3
-    heading_wrong e = open_one ∙ one_wrong (get_or head_bits i 0) (drop to bytes) (numbers (drop (suc i) head_bits)) (take i h) e
+    pub heading_refused : {r : Refusal} → number (get_or head_bits i 0) rest ≡ Err r → numbers head_bits bytes ≡ fault (number_of r)
+    heading_refused e = open_one ∙ one_refused (get_or head_bits i 0) rest (numbers (drop (suc i) head_bits)) (take i h) e
 
 -- ---- the header
 
@@ -87,7 +92,6 @@ row_at h i j k =
 
 abbrev pub header : List ℕ → Float → Float → Float → List Float → List Float → List Float → Header
 header h scale radius cut x y z = record {
-  refusal = 0;
   spots = place h head_spots;
   matches = place h head_matches;
   directions = place h head_directions;
@@ -97,9 +101,7 @@ header h scale radius cut x y z = record {
   cut = cut;
   limit = place h head_limit;
   rounds = place h head_rounds;
-  rot0 = x;
-  rot1 = y;
-  rot2 = z;
+  rotation = x ∷ y ∷ z ∷ [];
 }
 
 pub made : (h : List ℕ) {scale radius cut : Float} {x y z : List Float}

@@ -1,6 +1,7 @@
 -- The bytes of a number one by one: what is left of the greatest number, above the groups read so far, decides each test. Assumes nothing.
 use mathlib.Core.Path.{◌≡◌, refl, sym, ap, ◌∙◌}
 use mathlib.Core.Bool.{Bool, true, false, cond, ◌&&◌, ◌||◌}
+use Rattle.std.specs.Prelude.{Result, Ok, Err}
 use mathlib.Core.List.{List, ◌∷◌}
 use mathlib.Core.Logic.{◌⊎◌, inl, inr}
 use Prim.Native.Nat.{ℕ, suc, ◌+◌, ◌-◌, ◌*◌, ◌/◌, ◌%◌, ◌^◌, ◌≤◌, ◌<◌}
@@ -12,8 +13,10 @@ use lib.Dec.{ltb, eqb}
 use lib.ListN.{length, drop, get_or, drop_of_length-le}
 use lib.Seq.{drop-cons}
 use lib.Pow.{pow_pos, pow_mono, pow-add, shl_exact}
-use Rattle.record.specs.declared.Numbered.TheVariants.{Got, Short, Wrong}
-use Rattle.record.specs.Number.{ends, leaves, number_from, number}
+use Rattle.refusal.specs.declared.Refusal.{Refusal}
+use Rattle.refusal.specs.declared.Refusal.TheVariants.{EndsEarly, WrongNumber}
+use Rattle.record.specs.declared.Number.{Number}
+use Rattle.record.specs.Number.{ends, leaves, number_from, number, numbered}
 use Rattle.record.specs.Passes.{Greatest}
 
 pub picks : {A : Type 0} (t : Bool) {x y z : A} → (t ≡ true → x ≡ z) → (t ≡ false → y ≡ z) → cond t x y ≡ z
@@ -27,23 +30,35 @@ and_right false e = refl
 pub one_shifted : (d : ℕ) → d < 64 → 1 * 2 ^ d % 2 ^ 64 ≡ 2 ^ d
 one_shifted d h = shl_exact 1 d 64 (omega arith) (omega arith) ∙ omega arith
 
+value_in : Result Number Refusal → ℕ
+value_in (Ok n) = n.value
+value_in (Err r) = 0
+
+bytes_in : Result Number Refusal → ℕ
+bytes_in (Ok n) = n.bytes
+bytes_in (Err r) = 0
+
+pub same_number : {v n w m : ℕ} → numbered v n ≡ numbered w m → (v ≡ w) × (n ≡ m)
+unfolding value_in bytes_in
+same_number e = (ap value_in e, ap bytes_in e)
+
 -- ---- a byte
 
 module _ (b : ℕ) (bs : List ℕ) (most v w n : ℕ) where
-  pub last_is : b < 128 → number_from (b ∷ bs) most v w n ≡ cond (ends most v w b) (Got (v + b * w) (suc n)) Wrong
+  pub last_is : b < 128 → number_from (b ∷ bs) most v w n ≡ cond (ends most v w b) (numbered (v + b * w) (suc n)) (Err WrongNumber)
   unfolding number_from
   last_is h =
       ap
-      (λ (t : Bool). cond t (cond (ends most v w b) (Got (v + b * w) (suc n)) Wrong)
-      (cond (leaves most v w b) (number_from bs most (v + b % 128 * w) (128 * w) (suc n)) Wrong))
+      (λ (t : Bool). cond t (cond (ends most v w b) (numbered (v + b * w) (suc n)) (Err WrongNumber))
+      (cond (leaves most v w b) (number_from bs most (v + b % 128 * w) (128 * w) (suc n)) (Err WrongNumber)))
       (lt-ltb b 128 h)
 
-  pub more_is : 128 ≤ b → number_from (b ∷ bs) most v w n ≡ cond (leaves most v w b) (number_from bs most (v + b % 128 * w) (128 * w) (suc n)) Wrong
+  pub more_is : 128 ≤ b → number_from (b ∷ bs) most v w n ≡ cond (leaves most v w b) (number_from bs most (v + b % 128 * w) (128 * w) (suc n)) (Err WrongNumber)
   unfolding number_from
   more_is h =
       ap
-      (λ (t : Bool). cond t (cond (ends most v w b) (Got (v + b * w) (suc n)) Wrong)
-      (cond (leaves most v w b) (number_from bs most (v + b % 128 * w) (128 * w) (suc n)) Wrong))
+      (λ (t : Bool). cond t (cond (ends most v w b) (numbered (v + b * w) (suc n)) (Err WrongNumber))
+      (cond (leaves most v w b) (number_from bs most (v + b % 128 * w) (128 * w) (suc n)) (Err WrongNumber)))
       (le-ltb b 128 h)
 
 pub leaves_is : (most v w b : ℕ) → leaves most v w b ≡ ltb (v + b % 128 * w + 128 * w) most
@@ -83,27 +98,27 @@ module _ (most v w left : ℕ) (small : v < w) (is : w * (left + 1) ≡ most) wh
       omega (arith, spread)
 
   module _ (b : ℕ) (bs : List ℕ) (n : ℕ) where
-    pub too_high : b < 256 → left < b → number_from (b ∷ bs) most v w n ≡ Wrong
+    pub too_high : b < 256 → left < b → number_from (b ∷ bs) most v w n ≡ Err WrongNumber
     unfolding number_from
     too_high byte h =
         picks (ltb b 128)
-        (λ e. ap (λ (t : Bool). cond t (Got (v + b * w) (suc n)) Wrong) (and_right (ltb 0 b || eqb w 1) (le-ltb (v + b * w) most (omega (arith, over b h)))))
-        (λ e. ap (λ (t : Bool). cond t (number_from bs most (v + b % 128 * w) (128 * w) (suc n)) Wrong)
+        (λ e. ap (λ (t : Bool). cond t (numbered (v + b * w) (suc n)) (Err WrongNumber)) (and_right (ltb 0 b || eqb w 1) (le-ltb (v + b * w) most (omega (arith, over b h)))))
+        (λ e. ap (λ (t : Bool). cond t (number_from bs most (v + b % 128 * w) (128 * w) (suc n)) (Err WrongNumber))
         (le-ltb (v + b % 128 * w + 128 * w) most (omega (arith, over b h, high_byte b w (ltb-false b 128 e) byte))))
 
-    pub needless : b ≡ 0 → 1 < w → number_from (b ∷ bs) most v w n ≡ Wrong
+    pub needless : b ≡ 0 → 1 < w → number_from (b ∷ bs) most v w n ≡ Err WrongNumber
     unfolding number_from
     needless z h =
         last_is b bs most v w n (omega arith)
-        ∙ ap (λ (t : Bool). cond ((t || eqb w 1) && ltb (v + b * w) most) (Got (v + b * w) (suc n)) Wrong) (le-ltb 0 b (omega arith))
-        ∙ ap (λ (t : Bool). cond (t && ltb (v + b * w) most) (Got (v + b * w) (suc n)) Wrong) (ne_eqb w 1 (λ e. omega arith))
+        ∙ ap (λ (t : Bool). cond ((t || eqb w 1) && ltb (v + b * w) most) (numbered (v + b * w) (suc n)) (Err WrongNumber)) (le-ltb 0 b (omega arith))
+        ∙ ap (λ (t : Bool). cond (t && ltb (v + b * w) most) (numbered (v + b * w) (suc n)) (Err WrongNumber)) (ne_eqb w 1 (λ e. omega arith))
 
-    pub last_byte : b < 128 → b ≤ left → (0 < b) ⊎ (w ≡ 1) → number_from (b ∷ bs) most v w n ≡ Got (v + b * w) (suc n)
+    pub last_byte : b < 128 → b ≤ left → (0 < b) ⊎ (w ≡ 1) → number_from (b ∷ bs) most v w n ≡ numbered (v + b * w) (suc n)
     unfolding number_from
     last_byte l h first =
         last_is b bs most v w n l
-        ∙ ap (λ (t : Bool). cond (t && ltb (v + b * w) most) (Got (v + b * w) (suc n)) Wrong) (lawful first)
-        ∙ ap (λ (t : Bool). cond t (Got (v + b * w) (suc n)) Wrong) (lt-ltb (v + b * w) most (under b h))
+        ∙ ap (λ (t : Bool). cond (t && ltb (v + b * w) most) (numbered (v + b * w) (suc n)) (Err WrongNumber)) (lawful first)
+        ∙ ap (λ (t : Bool). cond t (numbered (v + b * w) (suc n)) (Err WrongNumber)) (lt-ltb (v + b * w) most (under b h))
       where
         lawful : (0 < b) ⊎ (w ≡ 1) → (ltb 0 b || eqb w 1) ≡ true
         lawful (inl p) = ap (λ (t : Bool). t || eqb w 1) (lt-ltb 0 b p)
@@ -113,7 +128,7 @@ module _ (most v w left : ℕ) (small : v < w) (is : w * (left + 1) ≡ most) wh
     unfolding number_from
     byte_on g byte h =
         more_is b bs most v w n g
-        ∙ ap (λ (t : Bool). cond t (number_from bs most (v + b % 128 * w) (128 * w) (suc n)) Wrong)
+        ∙ ap (λ (t : Bool). cond t (number_from bs most (v + b % 128 * w) (128 * w) (suc n)) (Err WrongNumber))
         (lt-ltb (v + b % 128 * w + 128 * w) most (omega (arith, under b h, high_byte b w g byte)))
         ∙ ap (λ (x : ℕ). number_from bs most (v + x * w) (128 * w) (suc n)) low
         ∙ ap (λ (x : ℕ). number_from bs most (v + (b - 128) * w) x (suc n)) (mul_comm 128 w)
@@ -144,75 +159,71 @@ module _ (left bits : ℕ) (is : left + 1 ≡ 2 ^ bits) (h : 128 ≤ left) where
 
 -- ---- the loop
 
-pub record Going (bytes : List ℕ) (at top v weight left i : ℕ) : Type 0 where
-  pub from : at ≤ i
+pub record Going (bytes : List ℕ) (top v weight left i : ℕ) : Type 0 where
   pub small : v < weight
-  pub first : i ≡ at → weight ≡ 1
-  pub later : at < i → 128 ≤ weight
+  pub first : i ≡ 0 → weight ≡ 1
+  pub later : 0 < i → 128 ≤ weight
   pub bits : Greatest left
   pub product : weight * (left + 1) ≡ top + 1
-  pub rest : (n : ℕ) → top + 1 ≡ 2 ^ n → number_from (drop i bytes) (2 ^ n) v weight (i - at) ≡ number n (drop at bytes)
+  pub rest : (n : ℕ) → top + 1 ≡ 2 ^ n → number_from (drop i bytes) (2 ^ n) v weight i ≡ number n bytes
 
-pub begun : (bytes : List ℕ) (at top : ℕ) → Greatest top → Going bytes at top 0 1 top at
+pub begun : (bytes : List ℕ) (top : ℕ) → Greatest top → Going bytes top 0 1 top 0
 unfolding number
-begun bytes at top g = record {
-  from = omega arith;
+begun bytes top g = record {
   small = omega arith;
   first = λ e. refl;
   later = λ h. absurd (omega arith);
   bits = g;
   product = omega arith;
-  rest = λ n e. ap (number_from (drop at bytes) (2 ^ n) 0 1) (omega arith);
+  rest = λ n e. refl;
 }
 
-module _ (bytes : List ℕ) (at top v w left i : ℕ) (g : Going bytes at top v w left i) where
-  pub number_ends : length bytes ≤ i → (n : ℕ) → top + 1 ≡ 2 ^ n → Short ≡ number n (drop at bytes)
+module _ (bytes : List ℕ) (top v w left i : ℕ) (g : Going bytes top v w left i) where
+  pub number_ends : length bytes ≤ i → (n : ℕ) → top + 1 ≡ 2 ^ n → Err EndsEarly ≡ number n bytes
   unfolding number_from
-  number_ends h n e = ap (λ (l : List ℕ). number_from l (2 ^ n) v w (i - at)) (sym (drop_of_length-le bytes h)) ∙ g.rest n e
+  number_ends h n e = ap (λ (l : List ℕ). number_from l (2 ^ n) v w i) (sym (drop_of_length-le bytes h)) ∙ g.rest n e
 
   module _ (h : i < length bytes) (b : ℕ) (is : b ≡ get_or bytes i 0) where
-    step : (n : ℕ) → top + 1 ≡ 2 ^ n → number_from (b ∷ drop (suc i) bytes) (2 ^ n) v w (i - at) ≡ number n (drop at bytes)
+    step : (n : ℕ) → top + 1 ≡ 2 ^ n → number_from (b ∷ drop (suc i) bytes) (2 ^ n) v w i ≡ number n bytes
     step n e =
-        ap (λ (x : ℕ). number_from (x ∷ drop (suc i) bytes) (2 ^ n) v w (i - at)) is
-        ∙ ap (λ (l : List ℕ). number_from l (2 ^ n) v w (i - at)) (sym (drop-cons bytes i 0 h)) ∙ g.rest n e
+        ap (λ (x : ℕ). number_from (x ∷ drop (suc i) bytes) (2 ^ n) v w i) is
+        ∙ ap (λ (l : List ℕ). number_from l (2 ^ n) v w i) (sym (drop-cons bytes i 0 h)) ∙ g.rest n e
 
-    pub number_high : b < 256 → left < b → (n : ℕ) → top + 1 ≡ 2 ^ n → Wrong ≡ number n (drop at bytes)
-    number_high byte l n e = sym (too_high (2 ^ n) v w left g.small (g.product ∙ e) b (drop (suc i) bytes) (i - at) byte l) ∙ step n e
+    pub number_high : b < 256 → left < b → (n : ℕ) → top + 1 ≡ 2 ^ n → Err WrongNumber ≡ number n bytes
+    number_high byte l n e = sym (too_high (2 ^ n) v w left g.small (g.product ∙ e) b (drop (suc i) bytes) i byte l) ∙ step n e
 
-    pub number_needless : b ≡ 0 → at < i → (n : ℕ) → top + 1 ≡ 2 ^ n → Wrong ≡ number n (drop at bytes)
+    pub number_needless : b ≡ 0 → 0 < i → (n : ℕ) → top + 1 ≡ 2 ^ n → Err WrongNumber ≡ number n bytes
     number_needless z l n e =
-        sym (needless (2 ^ n) v w left g.small (g.product ∙ e) b (drop (suc i) bytes) (i - at) z (omega (arith, g.later l))) ∙ step n e
+        sym (needless (2 ^ n) v w left g.small (g.product ∙ e) b (drop (suc i) bytes) i z (omega (arith, g.later l))) ∙ step n e
 
-    pub number_last : b < 128 → b ≤ left → (b ≡ 0 → i ≤ at) → (n : ℕ) → top + 1 ≡ 2 ^ n → Got (v + b * w) (i - at + 1) ≡ number n (drop at bytes)
+    pub number_last : b < 128 → b ≤ left → (b ≡ 0 → i ≡ 0) → (n : ℕ) → top + 1 ≡ 2 ^ n → numbered (v + b * w) (i + 1) ≡ number n bytes
     number_last l k z n e =
-        ap (Got (v + b * w)) (add-one (i - at))
-        ∙ sym (last_byte (2 ^ n) v w left g.small (g.product ∙ e) b (drop (suc i) bytes) (i - at) l k (whether (ltb 0 b) refl)) ∙ step n e
+        ap (numbered (v + b * w)) (add-one i)
+        ∙ sym (last_byte (2 ^ n) v w left g.small (g.product ∙ e) b (drop (suc i) bytes) i l k (whether (ltb 0 b) refl)) ∙ step n e
       where
         whether : (t : Bool) → ltb 0 b ≡ t → (0 < b) ⊎ (w ≡ 1)
         whether true p = inl (ltb-true 0 b p)
         whether false p =
             let none : b ≡ 0 = omega (arith, ltb-false 0 b p) in
-            inr (g.first (omega (arith, z none, g.from)))
+            inr (g.first (z none))
 
     pub fits_last : b ≤ left → v + b * w < top + 1
     fits_last k = under (top + 1) v w left g.small g.product b k
 
-    pub number_on : 128 ≤ b → b < 256 → b ≤ left → Going bytes at top (v + (b - 128) * w) (w * 128) (left / 128) (i + 1)
+    pub number_on : 128 ≤ b → b < 256 → b ≤ left → Going bytes top (v + (b - 128) * w) (w * 128) (left / 128) (i + 1)
     number_on l byte k =
         let down : (b - 128) * w + 128 * w ≡ b * w = sym (add-mul (b - 128) 128 w) ∙ ap (λ (x : ℕ). x * w) (omega arith) in
         let short : (b - 128) * w ≤ 127 * w = mul-le-mul_right w (omega arith) in
         let up : 128 ≤ left = omega arith in
         record {
-          from = omega (arith, g.from);
           small = omega (arith, g.small);
-          first = λ e. absurd (omega (arith, g.from));
+          first = λ e. absurd (omega arith);
           later = λ e. omega (arith, g.small);
           bits = record { bits = g.bits.bits - 7; is = next_left left g.bits.bits g.bits.is up };
           product = mul_assoc w 128 (left / 128 + 1) ∙ ap (λ (x : ℕ). w * x) (next_whole left g.bits.bits g.bits.is up) ∙ g.product;
           rest = λ n e.
-              ap (λ (x : ℕ). number_from (drop x bytes) (2 ^ n) (v + (b - 128) * w) (w * 128) (i + 1 - at)) (add-one i)
-              ∙ ap (number_from (drop (suc i) bytes) (2 ^ n) (v + (b - 128) * w) (w * 128)) (omega (arith, g.from))
-              ∙ sym (byte_on (2 ^ n) v w left g.small (g.product ∙ e) b (drop (suc i) bytes) (i - at) l byte k) ∙ step n e;
+              ap (λ (x : ℕ). number_from (drop x bytes) (2 ^ n) (v + (b - 128) * w) (w * 128) (i + 1)) (add-one i)
+              ∙ sym (byte_on (2 ^ n) v w left g.small (g.product ∙ e) b (drop (suc i) bytes) i l byte k) ∙ step n e;
         }
 
     pub fits_on : 128 ≤ b → b ≤ left → w * 128 < top + 1

@@ -1,13 +1,14 @@
 -- The bytes of lists of numbers and of a record and their reading, both ways. Assumes nothing.
 use mathlib.Core.Path.{◌≡◌, refl, sym, ap, subst, ◌∙◌}
+use Rattle.std.specs.Prelude.{Result, Ok, Err}
 use mathlib.Core.List.{List, [], ◌∷◌, ◌++◌, append_assoc}
 use Prim.Native.Nat.{ℕ, zero, suc, ◌+◌, ◌*◌, ◌/◌, ◌^◌, ◌≤◌, ◌<◌}
 use native.Mathlib.Omega.{arith}
 use lib.ListN.{length, take, drop, replicate, length-replicate}
 use lib.Seq.{drop-cons}
 use Rattle.panel.specs.Spots.{spot_numbers}
-use Rattle.record.specs.declared.Numbered.{Numbered}
-use Rattle.record.specs.declared.Numbered.TheVariants.{Got, Short, Wrong}
+use Rattle.refusal.specs.declared.Refusal.{Refusal}
+use Rattle.record.specs.declared.Number.{Number}
 use Rattle.record.specs.Number.{written, number}
 use Rattle.record.specs.Layout.{Exposure, Field, field, each, fields, written_fields, record_of, AllFit, Whole}
 use Rattle.record.specs.Reading.{Values, values, fault, onward, following, numbers, run, Read, refused, closed, then, body, reading}
@@ -101,10 +102,9 @@ one_many b l X next same = by (number b l)
     inner v x (got vs r) e = ap (λ (z : Values). onward z (λ vs more. values (v ∷ vs) more)) e
     inner v x (bad n) e = ap (λ (z : Values). onward z (λ vs more. values (v ∷ vs) more)) e
 
-    by : (y : Numbered) → following l y (λ v rest. onward (next rest) (λ vs more. values (v ∷ vs) more)) ≡ as_values (mapped consed (onto (out_of l y) (λ v. X)))
-    by (Got v n) = inner v (next (drop n l)) (X (drop n l)) (same (drop n l))
-    by Short = refl
-    by Wrong = refl
+    by : (y : Result Number Refusal) → following l y (λ v rest. onward (next rest) (λ vs more. values (v ∷ vs) more)) ≡ as_values (mapped consed (onto (out_of l y) (λ v. X)))
+    by (Ok n) = inner n.value (next (drop n.bytes l)) (X (drop n.bytes l)) (same (drop n.bytes l))
+    by (Err r) = refl
 
 pub numbers_many : (bs l : List ℕ) → numbers bs l ≡ as_values (many bs l)
 unfolding numbers many as_values

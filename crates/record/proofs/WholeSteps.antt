@@ -1,21 +1,20 @@
 -- A record from its head to its last number: the first fault is the refusal, and without one the lists stand at known places. Assumes nothing.
 use mathlib.Core.Path.{◌≡◌, refl, sym, ap, subst, ◌∙◌}
 use mathlib.Core.Bool.{Bool, cond}
+use Rattle.std.specs.Prelude.{Result, Ok, Err}
 use mathlib.Core.List.{List, [], ◌∷◌}
 use Prim.Native.Nat.{ℕ, zero, suc, ◌*◌, ◌^◌, ◌≤◌, ◌<◌}
 use native.Mathlib.Omega.{arith}
 use borrow.Author.Tests.{lt-ltb, le-ltb}
-use lib.ListN.{length, drop, drop_of_length-le}
-use lib.Seq.{drop-cons}
+use lib.ListN.{length, drop}
 use Rattle.panel.specs.Spots.{spot_numbers}
-use Rattle.record.specs.declared.Numbered.{Numbered}
-use Rattle.record.specs.declared.Numbered.TheVariants.{Got, Short, Wrong}
-use Rattle.record.specs.Number.{number}
+use Rattle.refusal.specs.declared.Refusal.{Refusal}
+use Rattle.record.specs.declared.Number.{Number}
+use Rattle.record.specs.Number.{number, numbered}
 use Rattle.record.specs.Reading.{Values, values, fault, onward, following, numbers, run, Read, refused, whole, closed, then, body, reading}
 use Rattle.record.specs.Layout.{Exposure}
 use Rattle.record.specs.Head.{head_spots, head_matches, head_directions, head_bits, place, exposure}
-use Rattle.record.specs.Passes.{answered, Fit, FoundIn}
-use Rattle.record.specs.declared.whole.Found.{Found}
+use Rattle.record.specs.Passes.{Fit}
 use Rattle.record.proofs.RunSteps.{taken, one, run_one, numbers_one}
 
 -- ---- what a number and its followers come from
@@ -24,7 +23,7 @@ pub record Opened (b : ℕ) (l : List ℕ) (next : List ℕ → Values) (vs rest
   pub v : ℕ
   pub n : ℕ
   pub ws : List ℕ
-  pub got : number b l ≡ Got v n
+  pub got : number b l ≡ numbered v n
   pub onwards : next (drop n l) ≡ values ws rest
   pub is : vs ≡ v ∷ ws
 
@@ -32,17 +31,16 @@ pub opened : (b : ℕ) (l : List ℕ) (next : List ℕ → Values) (vs rest : Li
 unfolding one
 opened b l next vs rest e = by (number b l) refl e
   where
-    inner : (v n : ℕ) → number b l ≡ Got v n → (x : Values) → next (drop n l) ≡ x → onward x (λ ws more. values (v ∷ ws) more) ≡ values vs rest → Opened b l next vs rest
+    inner : (v n : ℕ) → number b l ≡ numbered v n → (x : Values) → next (drop n l) ≡ x → onward x (λ ws more. values (v ∷ ws) more) ≡ values vs rest → Opened b l next vs rest
     inner v n f (values ws more) g e =
         let p : v ∷ ws ≡ vs = cc in
         let q : more ≡ rest = cc in
         record { v = v; n = n; ws = ws; got = f; onwards = g ∙ ap (values ws) q; is = sym p }
     inner v n f (fault k) g e = let z : ◌≡◌ {A = ℕ} 0 1 = cc in absurd (omega arith)
 
-    by : (x : Numbered) → number b l ≡ x → following l x (λ v more. onward (next more) (λ ws more. values (v ∷ ws) more)) ≡ values vs rest → Opened b l next vs rest
-    by (Got v n) f e = inner v n f (next (drop n l)) refl e
-    by Short f e = let z : ◌≡◌ {A = ℕ} 0 1 = cc in absurd (omega arith)
-    by Wrong f e = let z : ◌≡◌ {A = ℕ} 0 1 = cc in absurd (omega arith)
+    by : (x : Result Number Refusal) → number b l ≡ x → following l x (λ v more. onward (next more) (λ ws more. values (v ∷ ws) more)) ≡ values vs rest → Opened b l next vs rest
+    by (Ok n) f e = inner n.value n.bytes f (next (drop n.bytes l)) refl e
+    by (Err r) f e = let z : ◌≡◌ {A = ℕ} 0 1 = cc in absurd (omega arith)
 
 fit_cons : (b : ℕ) (bs : List ℕ) (v : ℕ) (ws : List ℕ) → v < 2 ^ b → Fit bs ws → Fit (b ∷ bs) (v ∷ ws)
 fit_cons b bs v ws h f zero k = h
@@ -63,19 +61,6 @@ run_length (suc k) b l vs rest e =
     ap length o.is ∙ ap suc (run_length k b (drop o.n l) o.ws rest o.onwards)
 
 -- ---- refused or not
-
-pub answered_bad : (n : ℕ) (x : Values) {y : Values} → (n ≡ 0 → ⊥) → y ≡ answered n x → y ≡ fault n
-unfolding answered
-answered_bad zero x h e = absurd (h refl)
-answered_bad (suc n) x h e = e
-
-pub answered_good : (n : ℕ) (x : Values) {y : Values} → n ≡ 0 → y ≡ answered n x → y ≡ x
-unfolding answered
-answered_good zero x h e = e
-answered_good (suc n) x h e = absurd (omega arith)
-
-pub stops : (bytes : List ℕ) (r : Found) (n : ℕ) → r.refusal ≡ n → (n ≡ 0 → ⊥) → reading bytes ≡ refused n → FoundIn bytes r
-stops bytes r n e h g = record { refusal = λ k. g ∙ ap refused (sym e); lawful = λ z. absurd (h (sym e ∙ z)) }
 
 pub read_long : (bytes : List ℕ) → 65536 < length bytes → reading bytes ≡ refused 1
 unfolding reading
@@ -134,10 +119,12 @@ module _ (bytes : List ℕ) (small : length bytes ≤ 65536) where
             → reading bytes ≡ closed (exposure h spots matches directions) rest3
         read_all directions rest3 k = read_matches ∙ then_values (λ directions rest. closed (exposure h spots matches directions) rest) k
 
-pub followed : (e : Exposure) (bytes : List ℕ) (to : ℕ) → to < length bytes → closed e (drop to bytes) ≡ refused 4
+pub followed : (e : Exposure) (rest : List ℕ) → 0 < length rest → closed e rest ≡ refused 4
 unfolding closed
-followed e bytes to h = ap (closed e) (drop-cons bytes to 0 h)
+followed e [] h = absurd (omega arith)
+followed e (b ∷ bs) h = refl
 
-pub ended : (e : Exposure) (bytes : List ℕ) (to : ℕ) → length bytes ≤ to → closed e (drop to bytes) ≡ whole e
+pub ended : (e : Exposure) (rest : List ℕ) → length rest ≡ 0 → closed e rest ≡ whole e
 unfolding closed
-ended e bytes to h = ap (closed e) (drop_of_length-le bytes h)
+ended e [] h = refl
+ended e (b ∷ bs) h = absurd (omega arith)

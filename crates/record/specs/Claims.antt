@@ -1,7 +1,7 @@
 -- What is claimed of reading, against the layout, both ways. Definitions only; the proofs are in proofs/Layouts.antt. Assumes nothing.
-use Rattle.std.specs.Prelude.{◌≡◌, ℕ, suc, ◌^◌, ◌≤◌, ◌<◌, List, [], ◌∷◌, ◌++◌, length, take}
-use Rattle.record.specs.declared.Numbered.TheVariants.{Got, Short, Wrong}
-use Rattle.record.specs.Number.{written, number}
+use Rattle.std.specs.Prelude.{◌≡◌, ℕ, suc, ◌^◌, ◌≤◌, ◌<◌, List, [], ◌∷◌, ◌++◌, length, take, Err}
+use Rattle.refusal.specs.declared.Refusal.TheVariants.{EndsEarly, WrongNumber}
+use Rattle.record.specs.Number.{written, numbered, number}
 use Rattle.record.specs.Layout.{Exposure, Whole, record_of}
 use Rattle.record.specs.Reading.{refused, whole, most_bytes, reading}
 
@@ -30,7 +30,7 @@ NumberBytes bits l = (n : ℕ) × (n < 2 ^ bits) × (l ≡ written n)
 abbrev pub NumberReads : Type 0
 NumberReads =
     (bits n : ℕ) (rest : List ℕ) → bits ≤ 64 → n < 2 ^ bits
-    → number bits (written n ++ rest) ≡ Got n (length (written n))
+    → number bits (written n ++ rest) ≡ numbered n (length (written n))
 
 -- A number that was read: it fits its bits, and the bytes that it took are its written form.
 pub record NumberRead (bits : ℕ) (l : List ℕ) (n k : ℕ) : Type 0 where
@@ -40,20 +40,20 @@ pub record NumberRead (bits : ℕ) (l : List ℕ) (n k : ℕ) : Type 0 where
 
 -- Whatever is read as a number is that.
 abbrev pub NumberMeans : Type 0
-NumberMeans = (bits n k : ℕ) (l : List ℕ) → Octets l → bits ≤ 64 → number bits l ≡ Got n k → NumberRead bits l n k
+NumberMeans = (bits n k : ℕ) (l : List ℕ) → Octets l → bits ≤ 64 → number bits l ≡ numbered n k → NumberRead bits l n k
 
 -- Each refusal exactly under its condition.
 abbrev pub NumberShort : Type 0
 NumberShort =
     (bits : ℕ) (l : List ℕ) → Octets l → bits ≤ 64
-    → (number bits l ≡ Short → Begins (NumberBytes bits) l) × (Begins (NumberBytes bits) l → number bits l ≡ Short)
+    → (number bits l ≡ Err EndsEarly → Begins (NumberBytes bits) l) × (Begins (NumberBytes bits) l → number bits l ≡ Err EndsEarly)
 
 -- 3: at some byte the number has no lawful ending any more.
 abbrev pub NumberWrong : Type 0
 NumberWrong =
     (bits : ℕ) (l : List ℕ) → Octets l → bits ≤ 64
-    → (number bits l ≡ Wrong → (i : ℕ) × SpoiledAt (NumberBytes bits) l i)
-    × ((i : ℕ) → SpoiledAt (NumberBytes bits) l i → number bits l ≡ Wrong)
+    → (number bits l ≡ Err WrongNumber → (i : ℕ) × SpoiledAt (NumberBytes bits) l i)
+    × ((i : ℕ) → SpoiledAt (NumberBytes bits) l i → number bits l ≡ Err WrongNumber)
 
 -- ---- a record
 

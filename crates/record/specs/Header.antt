@@ -1,10 +1,12 @@
 -- What the reader hands back and leaves in the lent lists. Definitions only. Assumes nothing.
-use Rattle.std.specs.Prelude.{ℕ, ◌/◌, Bool, false, cond, ◌&&◌, List, [], ◌∷◌, leb, eqb, length, get_or, Float}
+use Rattle.std.specs.Prelude.{ℕ, ◌/◌, Bool, false, cond, ◌&&◌, List, [], ◌∷◌, leb, eqb, length, get_or, Float, Result, Ok, Err}
 use Rattle.std.specs.Float.{Format, binary32, binary64}
 use Rattle.std.specs.Float.Ieee.{of_bits}
 use Rattle.lists.specs.Fronted.{fronted}
 use Rattle.rounding.specs.Arith.{zero64}
 use Rattle.panel.specs.Spots.{spot_numbers}
+use Rattle.refusal.specs.declared.Refusal.{Refusal}
+use Rattle.refusal.specs.Number.{number_of}
 use Rattle.record.specs.Layout.{Exposure}
 use Rattle.record.specs.Reading.{Read, refused, whole, reading}
 use Rattle.record.specs.declared.Header.{Header}
@@ -18,8 +20,22 @@ floats_of f (b ∷ bs) = of_bits f b ∷ floats_of f bs
 abbrev pub rotation_row : List ℕ → ℕ → ℕ → ℕ → List Float
 rotation_row l i j k = of_bits binary32 (get_or l i 0) ∷ of_bits binary32 (get_or l j 0) ∷ of_bits binary32 (get_or l k 0) ∷ []
 
+-- What is handed back: the number of the refusal, 0 where there is none, and what the record says beside its three lists.
+pub record Handed : Type 0 where
+  pub refusal : ℕ
+  pub spots : ℕ
+  pub matches : ℕ
+  pub directions : ℕ
+  pub mirror : Bool
+  pub scale : Float
+  pub radius : Float
+  pub cut : Float
+  pub limit : ℕ
+  pub rounds : ℕ
+  pub rotation : List (List Float)
+
 -- "A refusal gives its number; pose and counts are zero."
-unfoldable pub refused_header : ℕ → Header
+unfoldable pub refused_header : ℕ → Handed
 refused_header n =
     let z = zero64 ∷ zero64 ∷ zero64 ∷ [] in
     record {
@@ -33,13 +49,11 @@ refused_header n =
       cut = zero64;
       limit = 0;
       rounds = 0;
-      rot0 = z;
-      rot1 = z;
-      rot2 = z;
+      rotation = z ∷ z ∷ z ∷ [];
     }
 
 -- The numbers of a record, with the counts of its lists.
-unfoldable pub header_of : Exposure → Header
+unfoldable pub header_of : Exposure → Handed
 header_of e = record {
   refusal = 0;
   spots = length e.spots / spot_numbers;
@@ -51,20 +65,40 @@ header_of e = record {
   cut = of_bits binary64 e.cut;
   limit = e.limit;
   rounds = e.rounds;
-  rot0 = rotation_row e.rotation 0 1 2;
-  rot1 = rotation_row e.rotation 3 4 5;
-  rot2 = rotation_row e.rotation 6 7 8;
+  rotation = rotation_row e.rotation 0 1 2 ∷ rotation_row e.rotation 3 4 5 ∷ rotation_row e.rotation 6 7 8 ∷ [];
 }
+
+-- A header of the code, beside a number,
+abbrev pub numbered : ℕ → Header → Handed
+numbered n h = record {
+  refusal = n;
+  spots = h.spots;
+  matches = h.matches;
+  directions = h.directions;
+  mirror = h.mirror;
+  scale = h.scale;
+  radius = h.radius;
+  cut = h.cut;
+  limit = h.limit;
+  rounds = h.rounds;
+  rotation = h.rotation;
+}
+
+-- and what the code answers, as it is handed back.
+unfoldable pub handed : Result Header Refusal → Handed
+unfolding refused_header
+handed (Ok h) = numbered 0 h
+handed (Err r) = refused_header (number_of r)
 
 -- The header, and the three lists afterwards.
 pub record Intake : Type 0 where
-  pub header : Header
+  pub header : Handed
   pub spots : List Float
   pub matches : List ℕ
   pub directions : List Float
 
 -- The four together, in the order of the code.
-abbrev pub intake : Header → List Float → List ℕ → List Float → Intake
+abbrev pub intake : Handed → List Float → List ℕ → List Float → Intake
 intake h spots matches directions = record { header = h; spots = spots; matches = matches; directions = directions }
 
 -- 11: "Reading a record into spot, match or direction lists too short for it is 11 too, after 4; longer ones stay unchanged past it."

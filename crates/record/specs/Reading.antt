@@ -1,8 +1,9 @@
 -- Reading a record: refusals 1 to 4, and its fields. Definitions only. Assumes nothing.
-use Rattle.std.specs.Prelude.{ℕ, zero, suc, ◌*◌, cond, List, [], ◌∷◌, ltb, length, drop}
+use Rattle.std.specs.Prelude.{ℕ, zero, suc, ◌*◌, cond, List, [], ◌∷◌, ltb, length, drop, Result, Ok, Err}
 use Rattle.panel.specs.Spots.{spot_numbers}
-use Rattle.record.specs.declared.Numbered.{Numbered}
-use Rattle.record.specs.declared.Numbered.TheVariants.{Got, Short, Wrong}
+use Rattle.refusal.specs.declared.Refusal.{Refusal}
+use Rattle.refusal.specs.Number.{number_of}
+use Rattle.record.specs.declared.Number.{Number}
 use Rattle.record.specs.Number.{number}
 use Rattle.record.specs.Layout.{Exposure}
 use Rattle.record.specs.Head.{head_spots, head_matches, head_directions, head_bits, place, exposure}
@@ -18,10 +19,9 @@ onward (values vs rest) f = f vs rest
 onward (fault n) f = fault n
 
 -- What follows a number: `after` of its value and the bytes after it.
-unfoldable pub following : List ℕ → Numbered → (ℕ → List ℕ → Values) → Values
-following bytes (Got v n) after = after v (drop n bytes)
-following bytes Short after = fault 2
-following bytes Wrong after = fault 3
+unfoldable pub following : List ℕ → Result Number Refusal → (ℕ → List ℕ → Values) → Values
+following bytes (Ok n) after = after n.value (drop n.bytes bytes)
+following bytes (Err r) after = fault (number_of r)
 
 -- A number of each of these bits in turn.
 unfoldable pub numbers : List ℕ → List ℕ → Values

@@ -1,10 +1,8 @@
 // The head of a record, as whole numbers: three counts, mirror, scale, radius, plane cut, limit, rounds, and the rotation.
-ghost use Rattle.std.specs.Prelude.{◌≡◌, ◌+◌, ◌^◌, ◌<◌, get_or};
-ghost use Rattle.record.specs.Head.{head_size, head_bits};
 ghost use Rattle.record.specs.Passes.{head_of};
 
-use crate::Numbered;
 use crate::numbers::{TOP_32, TOP_64, number_to};
+use refusal::Refusal;
 
 // The place of each number, as specs/Head.antt has it; the rotation's nine entries stand from ROTATION on.
 pub(crate) const SPOTS: usize = 0;
@@ -30,65 +28,29 @@ pub(crate) const ROTATION: usize = 9;
 // How many there are.
 pub(crate) const COUNT: usize = 18;
 
-// The numbers and the place after them, or a refusal.
-#[derive(Drop)]
-pub(crate) struct Head {
-    pub refusal: usize,
-    pub to: usize,
-    pub numbers: [u64; COUNT],
-}
+// The greatest that each may be: the mirror has 1 bit, the scale and the cut 64, and any other 32.
+const TOPS: [u64; COUNT] = [
+    TOP_32, TOP_32, TOP_32, 1, TOP_64, TOP_32, TOP_64, TOP_32, TOP_32, TOP_32, TOP_32, TOP_32,
+    TOP_32, TOP_32, TOP_32, TOP_32, TOP_32, TOP_32,
+];
 
-// The greatest that the number at this place may be: the mirror has 1 bit, the scale and the cut 64, and any other 32.
-fn top_at(i: usize) -> u64
-    requires { i < head_size }
-    ensures { result + 1 ≡ 2 ^ get_or head_bits i 0 }
-{
-    if i == MIRROR {
-        return 1;
-    }
-    if i == SCALE {
-        return TOP_64;
-    }
-    if i == CUT {
-        return TOP_64;
-    }
-    TOP_32
+// The numbers of a head, and the bytes after them.
+#[derive(Drop)]
+pub(crate) struct Head<'a> {
+    pub numbers: [u64; COUNT],
+    pub rest: &'a [u8],
 }
 
 // The head of a record, up to the first fault.
-pub(crate) fn read_head(bytes: &[u8]) -> Head
+pub(crate) fn read_head(bytes: &[u8]) -> Result<Head<'_>, Refusal>
     ensures { head_of bytes.now result }
 {
-    let mut h = [0u64; COUNT];
-    let mut to: usize = 0;
-    let mut i: usize = 0;
-    while i < COUNT {
-        let top = top_at(i);
-        match number_to(bytes, to, top) {
-            Numbered::Got(v, n) => {
-                h[i] = v;
-                to += n;
-            }
-            Numbered::Short => {
-                return Head {
-                    refusal: 2,
-                    to,
-                    numbers: h,
-                };
-            }
-            Numbered::Wrong => {
-                return Head {
-                    refusal: 3,
-                    to,
-                    numbers: h,
-                };
-            }
-        }
-        i += 1;
+    let mut numbers = [0u64; COUNT];
+    let mut rest = bytes;
+    for i in 0..COUNT {
+        let n = number_to(rest, TOPS[i])?;
+        numbers[i] = n.value;
+        rest = &rest[n.bytes..];
     }
-    Head {
-        refusal: 0,
-        to,
-        numbers: h,
-    }
+    Ok(Head { numbers, rest })
 }

@@ -1,70 +1,42 @@
 // The first pass over a record, which writes nothing: is it lawful, and where are its lists?
-ghost use Rattle.std.specs.Prelude.{◌≡◌};
 ghost use Rattle.record.specs.Passes.{FoundIn};
 
 use crate::heads::{COUNT, DIRECTIONS, MATCHES, SPOTS, read_head};
 use crate::numbers::{TOP_32, TOP_64};
 use crate::runs::skip;
 use panel::SPOT_NUMBERS;
+use refusal::Refusal;
 
 const MOST_BYTES: usize = 65536;
 
-// The head and the places where spots, matches and directions start, or a refusal.
+// The head, and the bytes that begin with spots, matches and directions.
 #[derive(Drop)]
-pub(crate) struct Found {
-    pub refusal: usize,
+pub(crate) struct Found<'a> {
     pub numbers: [u64; COUNT],
-    pub spots: usize,
-    pub matches: usize,
-    pub directions: usize,
-}
-
-// A refusal, and no places.
-fn stopped(refusal: usize) -> Found
-    ensures { result.refusal ≡ refusal }
-{
-    Found {
-        refusal,
-        numbers: [0u64; COUNT],
-        spots: 0,
-        matches: 0,
-        directions: 0,
-    }
+    pub spots: &'a [u8],
+    pub matches: &'a [u8],
+    pub directions: &'a [u8],
 }
 
 // Refusals 1 to 4: of 2 and 3 the first fault along the record counts.
-pub(crate) fn look_over(bytes: &[u8]) -> Found
+pub(crate) fn look_over(bytes: &[u8]) -> Result<Found<'_>, Refusal>
     ensures { FoundIn bytes.now result }
 {
     if MOST_BYTES < bytes.len() {
-        return stopped(1);
+        return Err(Refusal::LongRecord);
     }
-    let h = read_head(bytes);
-    if h.refusal != 0 {
-        return stopped(h.refusal);
-    }
+    let h = read_head(bytes)?;
     let numbers = h.numbers;
-    let spots = h.to;
-    let s = skip(bytes, spots, SPOT_NUMBERS * numbers[SPOTS] as usize, TOP_64);
-    if s.refusal != 0 {
-        return stopped(s.refusal);
+    let matches = skip(h.rest, SPOT_NUMBERS * numbers[SPOTS] as usize, TOP_64)?;
+    let directions = skip(matches, 2 * numbers[MATCHES] as usize, TOP_32)?;
+    let after = skip(directions, 3 * numbers[DIRECTIONS] as usize, TOP_32)?;
+    if 0 < after.len() {
+        return Err(Refusal::BytesAfter);
     }
-    let m = skip(bytes, s.to, 2 * numbers[MATCHES] as usize, TOP_32);
-    if m.refusal != 0 {
-        return stopped(m.refusal);
-    }
-    let d = skip(bytes, m.to, 3 * numbers[DIRECTIONS] as usize, TOP_32);
-    if d.refusal != 0 {
-        return stopped(d.refusal);
-    }
-    if d.to < bytes.len() {
-        return stopped(4);
-    }
-    Found {
-        refusal: 0,
+    Ok(Found {
         numbers,
-        spots,
-        matches: s.to,
-        directions: m.to,
-    }
+        spots: h.rest,
+        matches,
+        directions,
+    })
 }

@@ -1,26 +1,21 @@
 -- One match more among the residuals: what is written and what is counted. Assumes nothing.
 use mathlib.Core.Path.{◌≡◌, refl, sym, ap, ◌∙◌}
-use mathlib.Core.Bool.{Bool, true, false, cond}
+use mathlib.Core.Bool.{Bool, true, false, cond, not}
 use mathlib.Core.List.{List, [], ◌∷◌, ◌++◌}
 use Prim.Native.Nat.{ℕ, zero, suc, ◌+◌, ◌-◌, ◌*◌, ◌≤◌, ◌<◌}
 use native.Mathlib.Numerals.{add-one}
 use native.Mathlib.Omega.{arith}
-use lib.Ieee.{Float, eq}
+use lib.Ieee.{Float, eq, ne}
+use mir.Val.{bool_byte}
 use lib.ListN.{get_or, length, take, drop, set, take-append-drop}
 use lib.Seq.{take-nil, drop-nil}
-use Rattle.project.specs.Camera.{tan_project_vec}
 use Rattle.solve.specs.Constants.{minus_one}
-use Rattle.residuals.specs.Residual.{apart, residual_of, residuals, over, in_front}
+use Rattle.residuals.specs.Residual.{residual_of, residuals, over, in_front}
 use Rattle.panel.specs.Spots.{spot_at}
-use Rattle.fit.specs.Rows.{View, row_of, direction_at, row_at, rows_from}
-use Rattle.project.specs.declared.Projected.{Projected}
+use Rattle.fit.specs.Rows.{row_of, direction_at, row_at, rows_from}
+use Rattle.fit.specs.declared.View.{View}
 use Rattle.panel.specs.declared.Spot.{Spot}
 use Rattle.fit.proofs.Lookup.{rows_next, rows_none}
-
--- What the plane point of a direction, or that there is none, makes of a residual.
-pub residual_is : (w : View) (c : Spot) (d : List Float) {p q : Projected} → p ≡ tan_project_vec w.cut d w.basis → p ≡ q → apart w c q ≡ residual_of w (row_of c d)
-unfolding residual_of
-residual_is w c d e f = rw (← e, f)
 
 -- The residuals of the rows from the match i on.
 module _ (w : View) (ss ds : List Float) (ms : List ℕ) (n i : ℕ) where
@@ -69,6 +64,15 @@ pub counted_next : (k : ℕ) {x : Float} {xs ys : List Float} {u total : ℕ} �
 counted_next k {x} {xs} {ys} p q r =
     let e : length (in_front xs) ≡ cond (eq x minus_one) 0 1 + length (in_front ys) = ap (λ (z : List Float). length (in_front z)) p ∙ front_length x ys in
     omega arith
+
+-- what a residual adds to the number of those in front of the plane
+tally : (b : Bool) → (bool_byte (not b) ≤ 1) × (bool_byte (not b) ≡ cond b 0 1)
+tally true = (omega arith, refl)
+tally false = (omega arith, refl)
+
+pub tallied : (x : Float) {u : ℕ} → u ≡ bool_byte (ne x minus_one) → (u ≤ 1) × (u ≡ cond (eq x minus_one) 0 1)
+unfolding ne
+tallied x e = rw e (tally (eq x minus_one))
 
 pub counted_done : (k : ℕ) {xs : List Float} {total : ℕ} → xs ≡ [] → k + length (in_front xs) ≡ total → k ≡ total
 unfolding in_front

@@ -7,10 +7,11 @@ use native.Mathlib.Numerals.{add-one}
 use native.Mathlib.Omega.{arith}
 use borrow.Author.Tests.{lt-ltb, le-ltb, le-leb, lt-leb}
 use lib.Ieee.{Float, nan}
+use mir.Val.{bool_byte}
 use lib.ListN.{get_or, length, take, drop, set, length-set, take-append-drop}
 use lib.Seq.{get_or-drop, drop-drop, drop-set-lt, take-suc-set, length-take-le}
 use Rattle.residuals.specs.Residual.{keeps, kept_from, kept, clipped, mad_clip_matches}
-use Rattle.residuals.specs.declared.Clip.TheVariants.{Kept, Unchanged}
+use Rattle.std.proofs.Common.{Some, None}
 
 -- what a test of the code says of the residual at i
 pub tested : (t : Float) (rs : List Float) (i : ℕ) {x : Float} {b v : Bool} → x ≡ get_or rs i nan → b ≡ keeps t x → b ≡ v → keeps t (get_or rs i nan) ≡ v
@@ -40,13 +41,15 @@ module _ (t : Float) (rs : List Float) (ms : List ℕ) (n i : ℕ) where
 
 module _ (t : Float) (rs : List Float) (n i k : ℕ)
     (left : (ms : List ℕ) → 2 * k + length (kept_from t rs ms i (n - i)) ≡ length (kept_from t rs ms 0 n)) where
-  pub count_next : i < n → keeps t (get_or rs i nan) ≡ true
-      → (ms : List ℕ) → 2 * (k + 1) + length (kept_from t rs ms (i + 1) (n - (i + 1))) ≡ length (kept_from t rs ms 0 n)
-  count_next h b ms = omega (arith, ap length (kept_next t rs ms n i h b), left ms)
-
-  pub count_not : i < n → keeps t (get_or rs i nan) ≡ false
-      → (ms : List ℕ) → 2 * k + length (kept_from t rs ms (i + 1) (n - (i + 1))) ≡ length (kept_from t rs ms 0 n)
-  count_not h b ms = omega (arith, ap length (kept_not t rs ms n i h b), left ms)
+  -- a turn of the loop, whose test is b
+  pub count_turn : i < n → {x : Float} {b : Bool} {u : ℕ} → x ≡ get_or rs i nan → b ≡ keeps t x → u ≡ bool_byte b
+      → (u ≤ 1) × ((ms : List ℕ) → 2 * (k + u) + length (kept_from t rs ms (i + 1) (n - (i + 1))) ≡ length (kept_from t rs ms 0 n))
+  count_turn h {x} {b} {u} p q r = go b (q ∙ ap (keeps t) p) r
+    where
+      go : (v : Bool) → v ≡ keeps t (get_or rs i nan) → u ≡ bool_byte v
+          → (u ≤ 1) × ((ms : List ℕ) → 2 * (k + u) + length (kept_from t rs ms (i + 1) (n - (i + 1))) ≡ length (kept_from t rs ms 0 n))
+      go true e s = (omega arith, λ ms. omega (arith, ap length (kept_next t rs ms n i h (sym e)), left ms))
+      go false e s = (omega arith, λ ms. omega (arith, ap length (kept_not t rs ms n i h (sym e)), left ms))
 
   pub count_done : n ≤ i → (ms : List ℕ) → length (kept_from t rs ms 0 n) ≡ 2 * k
   count_done h ms = omega (arith, ap length (kept_none t rs ms n i h), left ms)
@@ -86,14 +89,14 @@ module _ (rs : List Float) (ms : List ℕ) (median sigma : Float) (k : ℕ) (cou
   half = omega arith
 
   pub clip_some : {after : List ℕ} → k < length ms / 2 → 4 ≤ k → after ≡ kept median sigma rs ms ++ drop (length (kept median sigma rs ms)) ms
-      → clipped (Kept k) after ≡ mad_clip_matches rs ms median sigma
+      → clipped (Some k) after ≡ mad_clip_matches rs ms median sigma
   unfolding mad_clip_matches
   clip_some p q e = rw (half, lt-ltb k (length ms / 2) p, le-leb 4 k q, e)
 
-  pub clip_all : length ms / 2 ≤ k → clipped Unchanged ms ≡ mad_clip_matches rs ms median sigma
+  pub clip_all : length ms / 2 ≤ k → clipped None ms ≡ mad_clip_matches rs ms median sigma
   unfolding mad_clip_matches
   clip_all p = rw (half, le-ltb k (length ms / 2) p)
 
-  pub clip_few : k < length ms / 2 → k < 4 → clipped Unchanged ms ≡ mad_clip_matches rs ms median sigma
+  pub clip_few : k < length ms / 2 → k < 4 → clipped None ms ≡ mad_clip_matches rs ms median sigma
   unfolding mad_clip_matches
   clip_few p q = rw (half, lt-ltb k (length ms / 2) p, lt-leb 4 k q)

@@ -1,7 +1,7 @@
 -- `compute_residuals`, `residual_median_sigma` and `mad_clip_matches` (wcs_refine.rs). Definitions only.
 -- The Rust keeps a residual with the number of its match. Here the residuals stand along the matches, and a match on or behind the plane
 -- has the mark -1 in its place: a residual is a square root, so it is never below zero. Assumes nothing.
-use Rattle.std.specs.Prelude.{◌≡◌, ℕ, zero, suc, ◌+◌, ◌*◌, ◌/◌, min, Bool, cond, not, ◌&&◌, List, [], ◌∷◌, ◌++◌, map, ltb, leb, get_or, length, take, drop, replicate, Float}
+use Rattle.std.specs.Prelude.{◌≡◌, ℕ, zero, suc, ◌+◌, ◌*◌, ◌/◌, min, Bool, cond, Option, Some, None, not, ◌&&◌, List, [], ◌∷◌, ◌++◌, map, ltb, leb, get_or, length, take, drop, replicate, Float}
 use Rattle.std.specs.Float.{nan, binary64}
 use Rattle.std.specs.Float.Ieee.{eq, le}
 use Rattle.rounding.specs.Arith.{◌⊕◌, ◌⊖◌, ◌⊗◌, zero64}
@@ -11,22 +11,20 @@ use Rattle.stats.specs.declared.MedianSigma.{MedianSigma}
 use Rattle.solve.specs.Constants.{clip_nsigma, minus_one}
 use Rattle.project.specs.Project.{predict_tanplane}
 use Rattle.project.specs.Camera.{tan_project_vec}
-use Rattle.fit.specs.Rows.{Row, View}
+use Rattle.fit.specs.Rows.{Row}
+use Rattle.fit.specs.declared.View.{View}
 use Rattle.panel.specs.declared.Spot.{Spot}
-use Rattle.project.specs.declared.Projected.{Projected}
-use Rattle.project.specs.declared.Projected.TheVariants.{At, Behind}
-use Rattle.residuals.specs.declared.Clip.{Clip}
-use Rattle.residuals.specs.declared.Clip.TheVariants.{Kept, Unchanged}
+use Rattle.project.specs.declared.Plane.{Plane}
 
 -- The body of compute_residuals' loop, with the direction's projection given: the distance of its plane point from that of the spot; the mark
 -- where there is none.
-unfoldable pub apart : View → Spot → Projected → Float
+unfoldable pub apart : View → Spot → Option Plane → Float
 unfolding predict_tanplane root
-apart w c Behind = minus_one
-apart w c (At xi eta) =
-    let p = predict_tanplane c.px c.py w.cos_t w.sin_t w.ps in
-    let dxi = p.xi ⊖ xi in
-    let deta = p.eta ⊖ eta in
+apart w c None = minus_one
+apart w c (Some p) =
+    let q = predict_tanplane c.px c.py w.cos_t w.sin_t w.ps in
+    let dxi = q.xi ⊖ p.xi in
+    let deta = q.eta ⊖ p.eta in
     root binary64 (dxi ⊗ dxi ⊕ deta ⊗ deta)
 
 -- The same with the projection made by `tan_project_vec`.
@@ -97,13 +95,14 @@ unfoldable pub kept : Float → Float → List Float → List ℕ → List ℕ
 unfolding kept_from threshold_of
 kept median sigma rs ms = kept_from (threshold_of median sigma) rs ms 0 (length ms / 2)
 
--- What the clip answers, and the matches afterwards: those kept, and after them what stood there.
+-- What the clip answers, how many matches it kept or that it had no effect, and the matches afterwards: those kept, and after them what stood
+-- there.
 pub record Clipped : Type 0 where
-  pub answer : Clip
+  pub answer : Option ℕ
   pub matches : List ℕ
 
 -- The code's side: its answer and the list afterwards, as that record.
-abbrev pub clipped : Clip → List ℕ → Clipped
+abbrev pub clipped : Option ℕ → List ℕ → Clipped
 clipped a ms = record { answer = a; matches = ms }
 
 -- mad_clip_matches. 01: "it takes effect only if fewer than all matches remain and at least 4".
@@ -112,5 +111,5 @@ unfolding kept
 mad_clip_matches rs ms median sigma =
     let ks = kept median sigma rs ms in
     cond (ltb (length ks / 2) (length ms / 2) && leb 4 (length ks / 2))
-    (record { answer = Kept (length ks / 2); matches = ks ++ drop (length ks) ms })
-    (record { answer = Unchanged; matches = ms })
+    (record { answer = Some (length ks / 2); matches = ks ++ drop (length ks) ms })
+    (record { answer = None; matches = ms })

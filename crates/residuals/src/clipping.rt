@@ -2,8 +2,8 @@
 ghost use Rattle.std.specs.Prelude.{◌≡◌, List, ◌++◌, ℕ, ◌*◌, ◌/◌, ◌≤◌, length, drop};
 ghost use Rattle.residuals.specs.Residual.{keeps, kept_from, clipped, mad_clip_matches};
 
-use crate::{Clip, NO_RESIDUAL};
-use lists::float_at;
+use crate::NO_RESIDUAL;
+use lists::at;
 
 // A residual up to so many standard deviations above the median is kept.
 const CLIP_NSIGMA: f64 = 3.0;
@@ -12,26 +12,20 @@ const CLIP_NSIGMA: f64 = 3.0;
 const FEWEST: usize = 4;
 
 // A match behind the plane has no residual, and is not kept.
+#[tactic(auto, unfolding(crate::specs::Residual::keeps))]
 fn keeps(threshold: f64, x: f64) -> bool
     ensures { result ≡ keeps threshold x }
 {
-    if x == NO_RESIDUAL {
-        return false;
-    }
-    x <= threshold
+    x != NO_RESIDUAL && x <= threshold
 }
 
 // How many of the first n matches are kept. The matches themselves are not looked at, so it is so many of any list of them.
 fn count_kept(residuals: &[f64], n: usize, threshold: f64) -> usize
     ensures { (result ≤ n) × ((ms : List ℕ) → length (kept_from threshold residuals.now ms 0 n) ≡ 2 * result) }
 {
-    let mut k: usize = 0;
-    let mut i: usize = 0;
-    while i < n {
-        if keeps(threshold, float_at(residuals, i)) {
-            k += 1;
-        }
-        i += 1;
+    let mut k = 0;
+    for i in 0..n {
+        k += usize::from(keeps(threshold, at(residuals, i, 0.0 / 0.0)));
     }
     k
 }
@@ -44,34 +38,34 @@ fn compact(residuals: &[f64], matches: &mut [usize], threshold: f64)
         (kept_from threshold residuals.now matches.old 0 (length matches.old / 2)))
         matches.old }
 {
-    let n = matches.len() / 2;
-    let mut k: usize = 0;
-    let mut i: usize = 0;
-    while i < n {
-        if keeps(threshold, float_at(residuals, i)) {
+    let mut k = 0;
+    for i in 0..matches.len() / 2 {
+        if keeps(threshold, at(residuals, i, 0.0 / 0.0)) {
             let spot = matches[2 * i];
             let direction = matches[2 * i + 1];
             matches[k] = spot;
             matches[k + 1] = direction;
             k += 2;
         }
-        i += 1;
     }
 }
 
-// The matches whose residuals are at most median + 3 sigma are kept, if that drops some of them and leaves enough; else all stay.
-pub fn mad_clip_matches(residuals: &[f64], matches: &mut [usize], median: f64, sigma: f64) -> Clip
+// The matches whose residuals are at most median + 3 sigma are kept, if that drops some of them and leaves enough: so many. Else all stay.
+pub fn mad_clip_matches(
+    residuals: &[f64],
+    matches: &mut [usize],
+    median: f64,
+    sigma: f64,
+) -> Option<usize>
     ensures { clipped result matches.new
         ≡ mad_clip_matches residuals.now matches.old median sigma }
 {
     let n = matches.len() / 2;
     let threshold = median + CLIP_NSIGMA * sigma;
     let k = count_kept(residuals, n, threshold);
-    if k < n {
-        if FEWEST <= k {
-            compact(residuals, matches, threshold);
-            return Clip::Kept(k);
-        }
+    if k < n && FEWEST <= k {
+        compact(residuals, matches, threshold);
+        return Some(k);
     }
-    Clip::Unchanged
+    None
 }

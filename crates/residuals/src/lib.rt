@@ -8,11 +8,5 @@ pub use clipping::mad_clip_matches;
 pub use residual::{compute_residuals, residual_median_sigma};
 
 // Stands in the place of the residual of a match on or behind the plane. A residual is a square root, and never below zero.
+// Stays (fixed memory): the residuals lie in a lent list of floats, in which an `Option` has no place.
 pub const NO_RESIDUAL: f64 = -1.0;
-
-// How many matches a clip left, or that it had no effect.
-#[derive(Drop)]
-pub enum Clip {
-    Kept(usize),
-    Unchanged,
-}

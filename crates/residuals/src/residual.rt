@@ -1,75 +1,63 @@
 // What is left, on the tangent plane, between each match's spot and its direction.
-ghost use Rattle.std.specs.Prelude.{◌≡◌, cond, List, ◌++◌, ◌+◌, ◌*◌, ◌≤◌, length, take, drop, Float};
-ghost use Rattle.std.specs.Float.Ieee.{eq};
-ghost use Rattle.solve.specs.Constants.{minus_one};
-ghost use Rattle.fit.specs.Rows.{rows, row_of, view_of, view_at};
+ghost use Rattle.std.specs.Prelude.{◌≡◌, ◌++◌, ◌+◌, ◌*◌, ◌≤◌, Some, length, take, drop};
+ghost use Rattle.fit.specs.Rows.{rows, row_of, view_of};
 ghost use Rattle.residuals.specs.Residual.{apart, residual_of, residuals, in_front, Computed, Measured};
 
 use crate::NO_RESIDUAL;
-use fit::{Pose, Turn, direction_at, turn_of};
-use lists::{put_float, smaller};
+use fit::{Pose, View, direction_at, view_of};
+use lists::put;
 use panel::{Spot, spot_at};
-use project::{Projected, predict_tanplane, tan_basis, tan_project_vec};
-use rounding::sqrt64;
+use project::{Plane, predict_tanplane, tan_project_vec};
+use rounding::sqrt;
 use stats::{MedianSigma, median_mad_sigma};
 
-// The distance of the plane point of a direction, (xi, eta), from that of its spot.
-fn apart(t: Turn, c: Spot, xi: f64, eta: f64) -> f64
-    ensures { (b : List (List Float)) → result ≡ apart (view_at b t) c (Projected.At xi eta) }
+// The distance of the plane point of a direction from that of its spot.
+#[tactic(auto, unfolding(crate::specs::Residual::apart))]
+fn apart(w: &View, c: Spot, p: Plane) -> f64
+    ensures { result ≡ apart w.now c (Some p) }
 {
-    let p = predict_tanplane(c.px, c.py, t.cos_t, t.sin_t, t.ps);
-    let dxi = p.xi - xi;
-    let deta = p.eta - eta;
-    sqrt64(dxi * dxi + deta * deta)
+    let q = predict_tanplane(c.px, c.py, w.cos_t, w.sin_t, w.ps);
+    let dxi = q.xi - p.xi;
+    let deta = q.eta - p.eta;
+    sqrt(dxi * dxi + deta * deta)
 }
 
 // A match's residual, or the mark.
-fn residual_of(basis: [[f64; 3]; 3], t: Turn, c: Spot, d: [f32; 3]) -> f64
-    ensures { result ≡ residual_of (view_at basis t) (row_of c d) }
+#[tactic(auto, unfolding(crate::specs::Residual::residual_of, crate::specs::Residual::apart))]
+fn residual_of(w: &View, c: Spot, d: [f32; 3]) -> f64
+    ensures { result ≡ residual_of w.now (row_of c d) }
 {
-    let p = tan_project_vec(d, basis, t.cut);
-    let Projected::At(xi, eta) = p else {
-        return NO_RESIDUAL;
-    };
-    apart(t, c, xi, eta)
+    match tan_project_vec(d, w.basis, w.cut) {
+        Some(p) => apart(w, c, p),
+        None => NO_RESIDUAL,
+    }
 }
 
-// By how much a residual adds to the number of those in front of the plane.
-fn in_front(x: f64) -> usize
-    ensures { (result ≤ 1) × (result ≡ cond (eq x minus_one) 0 1) }
-{
-    if x == NO_RESIDUAL { 0 } else { 1 }
-}
-
-// The residuals of all matches, with the basis and the turn given.
+// The residuals of all matches, with the view given.
+// Stays (form of 01): spots, directions and matches are handed on as `compute_residuals` is lent them: flat lists, each by itself.
 fn residuals(
     matches: &[usize],
     directions: &[f32],
     spots: &[f64],
-    basis: [[f64; 3]; 3],
-    t: Turn,
+    w: &View,
     out: &mut [f64],
 ) -> usize
-    ensures { Computed (residuals (view_at basis t)
-        (rows spots.now directions.now matches.now))
-        out.old out.new result }
+    ensures { Computed (residuals w.now (rows spots.now directions.now matches.now)) out.old out.new result }
 {
-    let n = matches.len() / 2;
-    let mut count: usize = 0;
-    let mut i: usize = 0;
-    while i < n {
-        let c = spot_at(spots, matches[2 * i]);
-        let d = direction_at(directions, matches[2 * i + 1]);
-        let x = residual_of(basis, t, c, d);
-        put_float(out, i, x);
-        count += in_front(x);
-        i += 1;
+    let mut count = 0;
+    for (i, [spot, direction]) in matches.as_chunks::<2>().0.iter().enumerate() {
+        let c = spot_at(spots, *spot);
+        let d = direction_at(directions, *direction);
+        let x = residual_of(w, c, d);
+        put(out, i, x);
+        count += usize::from(x != NO_RESIDUAL);
     }
     count
 }
 
 // The residual of each match, written along the matches, with the mark where a direction lies on or behind the plane. The answer is how many
 // lie in front of it.
+// Stays (form of 01): spots, directions and matches are lent as flat lists, each by itself, in the Rust's order.
 pub fn compute_residuals(
     matches: &[usize],
     directions: &[f32],
@@ -82,9 +70,7 @@ pub fn compute_residuals(
         (rows spots.now directions.now matches.now))
         out.old out.new result }
 {
-    let basis = tan_basis(pose.ra, pose.dec);
-    let t = turn_of(pose, cut);
-    residuals(matches, directions, spots, basis, t, out)
+    residuals(matches, directions, spots, &view_of(pose, cut), out)
 }
 
 // The first n residuals, without the marks, are copied to the places after them: so many.
@@ -94,15 +80,13 @@ fn gather(l: &mut [f64], n: usize) -> usize
         × (l.new ≡
         take n l.old ++ in_front (take n l.old) ++ drop (n + result) l.old) }
 {
-    let mut k: usize = 0;
-    let mut i: usize = 0;
-    while i < n {
+    let mut k = 0;
+    for i in 0..n {
         let x = l[i];
         if x != NO_RESIDUAL {
             l[n + k] = x;
             k += 1;
         }
-        i += 1;
     }
     k
 }
@@ -112,7 +96,7 @@ fn gather(l: &mut [f64], n: usize) -> usize
 pub fn residual_median_sigma(l: &mut [f64], n: usize) -> MedianSigma
     ensures { Measured l.old l.new n result }
 {
-    let from = smaller(n, l.len() / 2);
+    let from = n.min(l.len() / 2);
     let count = gather(l, from);
     let to = from + count;
     median_mad_sigma(&mut l[from..to])

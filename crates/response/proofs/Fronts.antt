@@ -7,12 +7,14 @@ use native.Mathlib.Omega.{arith}
 use lib.ListN.{length, take}
 use lib.Seq.{take-nil}
 use lib.Ieee.{Float}
+use Rattle.std.specs.Prelude.{Result}
 use Rattle.panel.specs.Spots.{spot_numbers}
 use Rattle.entry.specs.Arguments.{Call, Lent}
 use Rattle.wcs_refine.specs.Call.{outcome}
-use Rattle.wcs_refine.specs.Returned.{returned, called, Answers}
+use Rattle.refusal.specs.declared.Refusal.{Refusal}
 use Rattle.wcs_refine.specs.declared.WcsRefineResult.{WcsRefineResult}
-use Rattle.record.specs.Header.{intake}
+use Rattle.wcs_refine.specs.Returned.{Values, returned, called, Answers}
+use Rattle.record.specs.Header.{intake, numbered}
 use Rattle.record.specs.declared.Header.{Header}
 use Rattle.printing.specs.Text.{answer_text, set_from}
 use Rattle.response.specs.Response.{asked}
@@ -41,19 +43,19 @@ front k l {n} e =
 
 -- The call on the fronts is the one that the header asks for.
 abbrev with_header : Header → Lent → List Float → List ℕ → List Float → Call
-with_header h lent ss ms ds = called ss ms ds (h.rot0 ∷ h.rot1 ∷ h.rot2 ∷ []) h.scale h.mirror h.radius h.cut h.limit h.rounds lent
+with_header h lent ss ms ds = called ss ms ds h.rotation h.scale h.mirror h.radius h.cut h.limit h.rounds lent
 
-pub on_fronts : (h : Header) (ss : List Float) (ms : List ℕ) (ds : List Float) (lent : Lent) {s m d : ℕ} {r : WcsRefineResult} {after : Lent}
+pub on_fronts : (h : Header) (ss : List Float) (ms : List ℕ) (ds : List Float) (lent : Lent) (r : Result WcsRefineResult Refusal) {s m d : ℕ} {after : Lent}
     → s ≡ min (spot_numbers * h.spots) (length ss) → m ≡ min (2 * h.matches) (length ms) → d ≡ min (3 * h.directions) (length ds)
-    → Answers (with_header h lent (take (s - 0) ss) (take (m - 0) ms) (take (d - 0) ds)) r after → Answers (asked (intake h ss ms ds) lent) r after
-on_fronts h ss ms ds lent {s} {m} {d} es em ed a =
+    → Answers (with_header h lent (take (s - 0) ss) (take (m - 0) ms) (take (d - 0) ds)) r after → Answers (asked (intake (numbered 0 h) ss ms ds) lent) r after
+on_fronts h ss ms ds lent r {s} {m} {d} es em ed a =
     a
     ∙ ap (λ (x : List Float). returned (outcome (with_header h lent x (take (m - 0) ms) (take (d - 0) ds)))) (front (spot_numbers * h.spots) ss es)
     ∙ ap (λ (x : List ℕ). returned (outcome (with_header h lent (take (spot_numbers * h.spots) ss) x (take (d - 0) ds)))) (front (2 * h.matches) ms em)
     ∙ ap (λ (x : List Float). returned (outcome (with_header h lent (take (spot_numbers * h.spots) ss) (take (2 * h.matches) ms) x))) (front (3 * h.directions) ds ed)
 
 -- An answer printed with a front of the result list.
-pub on_front : (r : WcsRefineResult) (l before : List ℕ) {m n : ℕ} {after : List ℕ} → m ≡ min (2 * r.matches) (length l)
+pub on_front : (r : Values) (l before : List ℕ) {m n : ℕ} {after : List ℕ} → m ≡ min (2 * r.matches) (length l)
     → (n ≡ min (length (answer_text r (take (m - 0) l))) (length before)) × (after ≡ set_from 0 (answer_text r (take (m - 0) l)) before)
     → (n ≡ min (length (answer_text r (take (2 * r.matches) l))) (length before)) × (after ≡ set_from 0 (answer_text r (take (2 * r.matches) l)) before)
 on_front r l before {m} {n} {after} e p =

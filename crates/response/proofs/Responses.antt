@@ -2,15 +2,21 @@
 use mathlib.Core.Path.{◌≡◌, refl, sym, subst}
 use mathlib.Core.Bool.{Bool, cond}
 use mathlib.Core.List.{List}
-use Prim.Native.Nat.{ℕ, ◌≤◌, ◌<◌, min}
+use Prim.Native.Nat.{ℕ, ◌≤◌, min}
 use native.Mathlib.Omega.{arith}
-use borrow.Author.Tests.{lt-ltb, le-ltb}
+use borrow.Author.Tests.{lt-ltb}
 use lib.ListN.{length, take}
 use lib.Seq.{length-take-le}
 use lib.Ieee.{Float}
 use Rattle.entry.specs.Arguments.{Lent}
 use Rattle.wcs_refine.specs.Returned.{Returned}
-use Rattle.record.specs.Header.{Intake, read_record}
+use Rattle.std.specs.Prelude.{Ok, Err}
+use Rattle.refusal.specs.declared.Refusal.{Refusal}
+use Rattle.refusal.specs.Number.{number_of}
+use Rattle.refusal.proofs.Passing.{has_number}
+use Rattle.printing.proofs.AnswerText.{above_zero}
+use Rattle.record.specs.declared.Header.{Header}
+use Rattle.record.specs.Header.{Intake, intake, handed, numbered, refused_header, read_record}
 use Rattle.printing.specs.Text.{refused_text, answer_text, set_from}
 use Rattle.response.specs.Response.{reported_by, answered, turned_away, response, response_to}
 use Rattle.response.specs.Printed.{Printed}
@@ -25,25 +31,24 @@ answered_so i o {told} {n} {before} {after} e p =
     subst (λ (x : Returned). Printed (answered i x) n before after i.spots i.matches i.directions o.lent) e
     (record { count = p.0; out = p.1; read_spots = refl; read_matches = refl; read_directions = refl; worked_on = refl })
 
-module _ (bytes : List ℕ) (ss : List Float) (ms : List ℕ) (ds : List Float) (lent : Lent) (i : Intake) (read : i ≡ read_record bytes ss ms ds) where
+module _ (bytes : List ℕ) (ss : List Float) (ms : List ℕ) (ds : List Float) (lent : Lent) (s : List Float) (m : List ℕ) (d : List Float) where
   -- Refused: its line.
-  pub turned_away_lem : {n : ℕ} {before after : List ℕ} → 0 < i.header.refusal
-      → (n ≡ min (length (refused_text i.header.refusal)) (length before)) × (after ≡ set_from 0 (refused_text i.header.refusal) before)
-      → Printed (response_to bytes ss ms ds lent) n before after i.spots i.matches i.directions lent
-  unfolding response_to response turned_away
-  turned_away_lem {n} {before} {after} h p =
-      subst (λ (x : Intake). Printed (response x lent) n before after i.spots i.matches i.directions lent) read
-      (subst (λ (b : Bool). Printed (cond b (turned_away i lent) (answer_to i lent)) n before after i.spots i.matches i.directions lent) (sym (lt-ltb 0 i.header.refusal h))
+  pub turned_away_lem : (x : Refusal) {n : ℕ} {before after : List ℕ} → intake (handed (Err x)) s m d ≡ read_record bytes ss ms ds
+      → (n ≡ min (length (refused_text (number_of x))) (length before)) × (after ≡ set_from 0 (refused_text (number_of x)) before)
+      → Printed (response_to bytes ss ms ds lent) n before after s m d lent
+  unfolding response_to response turned_away handed refused_header
+  turned_away_lem x {n} {before} {after} read p =
+      let i = intake (handed (Err x)) s m d in
+      subst (λ (y : Intake). Printed (response y lent) n before after s m d lent) read
+      (subst (λ (b : Bool). Printed (cond b (turned_away i lent) (answer_to i lent)) n before after s m d lent) (sym (lt-ltb 0 (number_of x) (above_zero (number_of x) (has_number x))))
       (record { count = p.0; out = p.1; read_spots = refl; read_matches = refl; read_directions = refl; worked_on = refl }))
 
   -- Not refused: the answer of its call.
-  pub let_in : {n : ℕ} {before after : List ℕ} {left : Lent} → i.header.refusal ≤ 0
-      → Printed (answer_to i lent) n before after i.spots i.matches i.directions left
-      → Printed (response_to bytes ss ms ds lent) n before after i.spots i.matches i.directions left
-  unfolding response_to response
-  let_in {n} {before} {after} {left} h p =
-      subst (λ (x : Intake). Printed (response x lent) n before after i.spots i.matches i.directions left) read
-      (subst (λ (b : Bool). Printed (cond b (turned_away i lent) (answer_to i lent)) n before after i.spots i.matches i.directions left) (sym (le-ltb 0 i.header.refusal h)) p)
+  pub let_in : (h : Header) {n : ℕ} {before after : List ℕ} {left : Lent} → intake (handed (Ok h)) s m d ≡ read_record bytes ss ms ds
+      → Printed (answer_to (intake (numbered 0 h) s m d) lent) n before after s m d left
+      → Printed (response_to bytes ss ms ds lent) n before after s m d left
+  unfolding response_to response handed
+  let_in h {n} {before} {after} {left} read p = subst (λ (y : Intake). Printed (response y lent) n before after s m d left) read p
 
 -- So many bytes are within the list that holds the text, whose length stays.
 pub counted : (n k room : ℕ) (after : List ℕ) → n ≡ min k room → length after ≡ room → n ≡ length (take n after)

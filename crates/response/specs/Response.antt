@@ -1,6 +1,6 @@
 -- One record in, one text out: what the program prints of the bytes that it reads, and what the lists lent for it hold afterwards.
 -- Definitions only. Assumes nothing.
-use Rattle.std.specs.Prelude.{ℕ, ◌*◌, cond, List, [], ◌∷◌, ltb, take, Float}
+use Rattle.std.specs.Prelude.{ℕ, ◌*◌, cond, List, ltb, take, Float}
 use Rattle.panel.specs.Spots.{spot_numbers}
 use Rattle.entry.specs.Arguments.{Call, Lent}
 use Rattle.wcs_refine.specs.Call.{outcome}
@@ -23,7 +23,7 @@ asked i lent =
     (take (spot_numbers * i.header.spots) i.spots)
     (take (2 * i.header.matches) i.matches)
     (take (3 * i.header.directions) i.directions)
-    (i.header.rot0 ∷ i.header.rot1 ∷ i.header.rot2 ∷ [])
+    i.header.rotation
     i.header.scale
     i.header.mirror
     i.header.radius

@@ -20,4 +20,3 @@ pub mod Monotone
 pub mod RootMax
 pub mod Theorems
 pub mod TotalOrder
-pub mod BitPatterns

@@ -1,4 +1,4 @@
--- The cases that `sqrt64` and `sqrt32` tell apart, over every format. Assumes nothing.
+-- The cases that `sqrt` tells apart, over every format. Assumes nothing.
 use Rattle.std.proofs.Common.{◌≡◌, ℕ, zero, suc, ◌+◌, ◌-◌, ◌*◌, ◌/◌, ◌%◌, ◌^◌, ◌<◌, ◌≤◌, Bool, true, false, cond, not, ◌&&◌, T, eqb, ltb, leb, ◌⊎◌, ℤ, pos, sym, refl, ap, ◌∙◌, subst, inl, inr, true≢false, le_trans, le_of_eq, le_refl, lt_of_lt_of_le, lt_of_le_of_lt, lt_irrefl, mul-le-mul_right, zero-lt-suc, mul_comm, div-lt_iff_lt-mul, add-mul, eq-zero-or-pos, mul-lt-mul_of_pos_right, mul-pos, mul_right_comm, arith, eqb→eq, ltb→lt, lt→ltb, pow_pos, pow-add}
 use mathlib.Core.Bool.{false≢true}
 use Prim.Native.Nat.{compare, Ordering}
@@ -137,7 +137,7 @@ pub root_fits : (f : Format) (m : ℕ) (e : ℤ) → T (fits f (root f (fin fals
 unfolding root root_of
 root_fits f m e = place_fits f false (whole_root (suc m * up e * 4 ^ low f / down e)) (λ t. compare (4 * (suc m * up e * 4 ^ low f)) (t * t * down e))
 
--- ---- what the proofs of `sqrt64` and `sqrt32` cite, once the tests for a NaN, a zero and a number below zero have failed
+-- ---- what the proof of `sqrt` cites, once the tests for a NaN, a zero and a number below zero have failed
 module _ (f : Format) (x : Float) (F : T (fits f x)) (n : ne x x ≡ false) (z : eq x (of_bits f 0) ≡ false) (b : lt x (of_bits f 0) ≡ false) where
   is_above : Above x
   is_above = above x (no_nan x n) (subst (λ (y : Float). eq x y ≡ false) (zero_is f) z) (subst (λ (y : Float). lt x y ≡ false) (zero_is f) b)

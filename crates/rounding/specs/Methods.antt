@@ -1,11 +1,12 @@
 -- The methods of Rust's f64 that the run uses and Rattle lacks, as Rust has them. Definitions only.
 -- `fin s m e` is m * 2 ^ e, negative where s is true, and `nan` stands for every NaN. Assumes nothing.
 use Rattle.std.specs.Prelude.{ℕ, ◌+◌, ◌-◌, Bool, true, false, cond, not, ◌||◌, is_nan, nat_le, nat_lt, to_bits, Float}
-use Prim.Native.Nat.{compare, Ordering}
+use Prim.Native.Nat
+use Prim.Native.Nat.{compare}
 use Rattle.std.specs.Float.{nan, inf, fin, binary64}
 use Rattle.std.specs.Float.Ieee.{lt, eq}
-use Rattle.rounding.specs.declared.methods.Order.{Order}
-use Rattle.rounding.specs.declared.methods.Order.TheVariants.{Less, Equal, Greater}
+use Rattle.std.specs.declared.cmp.Ordering.{Ordering}
+use Rattle.std.specs.declared.cmp.Ordering.TheVariants.{Less, Equal, Greater}
 
 -- f64::is_sign_negative, of every number and zero; the one NaN counts as having no sign.
 unfoldable pub negative : Float → Bool
@@ -47,10 +48,10 @@ total_key x =
     (0xFFFFFFFFFFFFFFFF - to_bits binary64 x))
 
 -- Rust's Ordering, from how two whole numbers compare.
-abbrev pub order_of : Ordering → Order
-order_of Ordering.lt = Less
-order_of Ordering.eq = Equal
-order_of Ordering.gt = Greater
+abbrev pub order_of : Nat.Ordering → Ordering
+order_of Nat.Ordering.lt = Less
+order_of Nat.Ordering.eq = Equal
+order_of Nat.Ordering.gt = Greater
 
 -- x is not after y in the order of total_cmp.
 unfoldable pub total_le : Float → Float → Bool
@@ -58,7 +59,7 @@ unfolding total_key
 total_le x y = nat_le (total_key x) (total_key y)
 
 -- f64::total_cmp itself.
-unfoldable pub total_cmp : Float → Float → Order
+unfoldable pub total_cmp : Float → Float → Ordering
 unfolding total_key
 total_cmp x y = order_of (compare (total_key x) (total_key y))
 

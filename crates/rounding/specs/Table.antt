@@ -23,7 +23,7 @@ IsRoot f (fin true (suc m) e) r = r ≡ nan
 -- of a number above zero: its root, rounded to the nearest float, ties to even
 IsRoot f (fin false (suc m) e) r = RoundedFloat f (RootedUnder f (suc m) e) (RootedOver f (suc m) e) false r
 
--- `root`, which the contracts of `sqrt64` and `sqrt32` cite, is it, for every kind of float and every format.
+-- `root`, which the contract of `sqrt` cites, is it, for every kind of float and every format.
 abbrev pub RootIs : Type 0
 RootIs = (f : Format) (x : Float) → IsRoot f x (root f x)
 

@@ -1,40 +1,28 @@
-// Floats from and to their bit patterns, at every pattern and every float. Rattle's own conversions leave out the NaNs, which have no one pattern:
-// every NaN pattern reads as the one NaN, and it is written with its sign clear and the first digit set.
+// Floats from and to their bit patterns, at every pattern and every float: every NaN pattern reads as the one NaN, and it is written with its sign
+// clear and the first digit set.
 ghost use Rattle.std.specs.Prelude.{◌≡◌, from_bits, to_bits};
-ghost use Rattle.std.specs.Float.{binary32, binary64};
 
-pub fn from_bits64(b: u64) -> f64
-    ensures { result ≡ from_bits binary64 b }
+use crate::format::Binary;
+
+pub fn from_bits<F: Binary>(b: F::Bits) -> F
+    ensures { F.value result ≡ from_bits F.format (F.number b) }
 {
-    if 0x7FF0_0000_0000_0000 < b % 0x8000_0000_0000_0000 {
-        return 0.0 / 0.0;
-    }
-    f64::from_bits(b)
+    F::of_bits(b)
 }
 
-pub fn from_bits32(b: u32) -> f32
-    ensures { result ≡ from_bits binary32 b }
+pub fn to_bits<F: Binary>(x: F) -> F::Bits
+    ensures { F.number result ≡ to_bits F.format (F.value x) }
 {
-    if 0x7F80_0000 < b % 0x8000_0000 {
-        return 0.0 / 0.0;
-    }
-    f32::from_bits(b)
+    x.bits()
 }
 
-pub fn to_bits64(x: f64) -> u64
-    ensures { result ≡ to_bits binary64 x }
+// One bit pattern for the NaN, where floats are handed out. 01: "Made here, a NaN has the bits 7FF8000000000000 (f32: 7FC00000)". The logic has
+// one NaN, so to the contract nothing changes: what changes is the pattern that a caller in another language sees.
+pub fn canonical<F: Binary>(x: F) -> F
+    ensures { F.value result ≡ F.value x }
 {
-    if x != x {
-        return 0x7FF8_0000_0000_0000;
+    if x.is_nan() {
+        return F::not_a_number();
     }
-    f64::to_bits(x)
-}
-
-pub fn to_bits32(x: f32) -> u32
-    ensures { result ≡ to_bits binary32 x }
-{
-    if x != x {
-        return 0x7FC0_0000;
-    }
-    f32::to_bits(x)
+    x
 }

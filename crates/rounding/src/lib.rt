@@ -6,14 +6,13 @@ mod whole_root; // whole_root.rt: the root of a whole number
 mod pattern; // pattern.rt: bit patterns, and the one rounding step
 mod root; // root.rt: the square root
 mod narrowing; // narrowing.rt: between f64 and f32
-mod bits; // bits.rt: from and to bit patterns
-mod canonical; // canonical.rt: the one NaN's pattern
+mod format; // format.rt: the two formats
+mod bits; // bits.rt: from and to bit patterns, and the one NaN's pattern
 mod methods; // methods.rt: Rust's methods of f64
 
-pub use bits::{from_bits32, from_bits64, to_bits32, to_bits64};
-pub use canonical::{canonical32, canonical64};
+pub use bits::{canonical, from_bits, to_bits};
 pub use methods::{
-    Order, abs, clamp, is_finite, is_nan, is_negative, max, min, total_cmp, total_key, total_le,
+    abs, clamp, is_finite, is_nan, is_negative, max, min, total_cmp, total_key, total_le,
 };
 pub use narrowing::{narrow, widen};
-pub use root::{sqrt32, sqrt64};
+pub use root::sqrt;

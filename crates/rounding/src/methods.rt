@@ -2,21 +2,21 @@
 ghost use Rattle.std.specs.Prelude.{◌≡◌, is_nan};
 ghost use Rattle.rounding.specs.Methods.{negative, abs_f, is_finite, max_f, min_f, clamp_f, total_key, total_le, total_cmp};
 
-// Only a NaN differs from itself.
+use crate::bits::to_bits;
+use std::cmp::Ordering;
+
+// Rust's is_nan.
 pub fn is_nan(x: f64) -> bool
     ensures { result ≡ is_nan x }
 {
-    x != x
+    x.is_nan()
 }
 
 // Rust's is_sign_negative: of -0.0 too. No NaN counts as negative.
 pub fn is_negative(x: f64) -> bool
     ensures { result ≡ negative x }
 {
-    if x != x {
-        return false;
-    }
-    0x8000_0000_0000_0000 <= f64::to_bits(x)
+    0x8000_0000_0000_0000 <= to_bits(x)
 }
 
 // The difference from 0.0 is exact, and gives 0.0 for a zero of either sign.
@@ -37,19 +37,13 @@ pub fn is_finite(x: f64) -> bool
 pub fn max(a: f64, b: f64) -> f64
     ensures { result ≡ max_f a b }
 {
-    if a != a {
-        return b;
-    }
-    if a < b { b } else { a }
+    if a.is_nan() || a < b { b } else { a }
 }
 
 pub fn min(a: f64, b: f64) -> f64
     ensures { result ≡ min_f a b }
 {
-    if a != a {
-        return b;
-    }
-    if b < a { b } else { a }
+    if a.is_nan() || b < a { b } else { a }
 }
 
 // A NaN stays. lo is looked at first.
@@ -57,9 +51,12 @@ pub fn clamp(x: f64, lo: f64, hi: f64) -> f64
     ensures { result ≡ clamp_f x lo hi }
 {
     if x < lo {
-        return lo;
+        lo
+    } else if hi < x {
+        hi
+    } else {
+        x
     }
-    if hi < x { hi } else { x }
 }
 
 // A whole number whose order is that of Rust's total_cmp, with every NaN last.
@@ -84,24 +81,9 @@ pub fn total_le(x: f64, y: f64) -> bool
     total_key(x) <= total_key(y)
 }
 
-#[derive(Drop)]
-pub enum Order {
-    Less,
-    Equal,
-    Greater,
-}
-
 // Rust's total_cmp, with every NaN last.
-pub fn total_cmp(x: f64, y: f64) -> Order
+pub fn total_cmp(x: f64, y: f64) -> Ordering
     ensures { result ≡ total_cmp x y }
 {
-    let a = total_key(x);
-    let b = total_key(y);
-    if a < b {
-        Order::Less
-    } else if a == b {
-        Order::Equal
-    } else {
-        Order::Greater
-    }
+    total_key(x).cmp(&total_key(y))
 }

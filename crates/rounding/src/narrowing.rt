@@ -3,7 +3,7 @@ ghost use Rattle.std.specs.Prelude.{◌≡◌, ◌+◌, ◌^◌, ◌≤◌, Bool
 ghost use Rattle.std.specs.Float.{binary32, binary64};
 ghost use Rattle.rounding.specs.Narrow.{narrowed};
 
-use crate::pattern::{nearest, take_apart};
+use crate::pattern::{Parts, nearest, take_apart};
 
 // The pattern of an `f32`, of a number at or above zero, or an infinity, whose pattern as an `f64` is a. The contract has both signs, s.
 // From the place 896 on a number is normal as an `f32`, and 29 digits go; below that more go, and past 63 nothing is left.
@@ -16,14 +16,12 @@ fn narrow_bits(a: u64) -> u64
     if a == 0x7ff0_0000_0000_0000 {
         return 0x7f80_0000;
     }
-    let v = take_apart(a, 52);
-    let q = v.digits;
-    let k = v.place;
-    if k < 896 {
-        let d = 925 - k;
-        if d < 64 { nearest(q, d) } else { 0 }
+    let Parts { digits, place } = take_apart(a, 52);
+    if place < 896 {
+        let d = 925 - place;
+        if d < 64 { nearest(digits, d) } else { 0 }
     } else {
-        let r = ((k - 896) << 23) + nearest(q, 29);
+        let r = ((place - 896) << 23) + nearest(digits, 29);
         if r < 0x7f80_0000 { r } else { 0x7f80_0000 }
     }
 }

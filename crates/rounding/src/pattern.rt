@@ -45,5 +45,5 @@ pub(crate) fn take_apart(b: u64, h: u64) -> Parts
 pub(crate) fn some(x: u64) -> u64
     ensures { result ≡ min x 1 }
 {
-    if x == 0 { 0 } else { 1 }
+    u64::from(x != 0)
 }

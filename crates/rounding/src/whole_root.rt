@@ -12,7 +12,7 @@ pub(crate) struct Rooted {
 fn below(a: u64, b: u64) -> u64
     ensures { ((result ≡ 1) × (a < b)) ⊎ ((result ≡ 0) × (b ≤ a)) }
 {
-    if a < b { 1 } else { 0 }
+    u64::from(a < b)
 }
 
 // The whole root of the top 16 digits of a, or one more: a cubic in the top 9 digits comes as near at each of their values.
@@ -84,7 +84,7 @@ pub(crate) fn whole_root(a: u64, n: u64) -> Rooted
         let m = a >> 14;
         settled(nearer(g, 9, m), m)
     } else {
-        let w = settled(nearer(g, 16, a), a);
-        longer(w.root, w.rest)
+        let Rooted { root, rest } = settled(nearer(g, 16, a), a);
+        longer(root, rest)
     }
 }

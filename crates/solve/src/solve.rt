@@ -8,6 +8,7 @@ use rounding::{abs, is_finite};
 // The least magnitude of a pivot.
 const TINY: f64 = 1e-30;
 
+#[tactic(auto, unfolding(crate::specs::Solve::beside))]
 fn beside(a: [[f64; 3]; 3], b: [f64; 3]) -> [[f64; 4]; 3]
     ensures { result ≡ beside a b }
 {
@@ -19,6 +20,7 @@ fn beside(a: [[f64; 3]; 3], b: [f64; 3]) -> [[f64; 4]; 3]
 }
 
 // The row i, with v in the column, takes the place of the best so far where its magnitude is larger; a NaN is never larger.
+#[tactic(auto, unfolding(crate::specs::Solve::better))]
 fn better(p: Pivot, i: usize, v: f64) -> Pivot
     ensures { result ≡ better p i v }
 {
@@ -39,48 +41,39 @@ fn pivot_of(m: [[f64; 4]; 3], col: usize) -> Pivot
         row: col,
         size: abs(m[col][col]),
     };
-    let mut i = col + 1;
-    while i < 3 {
+    for i in col + 1..3 {
         p = better(p, i, m[i][col]);
-        i += 1;
     }
     p
 }
 
+#[tactic(auto, unfolding(crate::specs::Solve::usable))]
 fn usable(size: f64) -> bool
     ensures { result ≡ usable size }
 {
-    if size < TINY {
-        return false;
-    }
-    is_finite(size)
+    !(size < TINY) && is_finite(size)
 }
 
-fn swapped(m: [[f64; 4]; 3], i: usize, j: usize) -> [[f64; 4]; 3]
+#[tactic(auto, using(std::proofs::lemmas::List::Edits::swap_is), unfolding(crate::specs::Solve::swapped))]
+fn swapped(mut m: [[f64; 4]; 3], i: usize, j: usize) -> [[f64; 4]; 3]
     requires { (i < 3) × (j < 3) }
     ensures { result ≡ swapped m i j }
 {
-    let a = m[i];
-    let b = m[j];
-    let mut n = m;
-    n[i] = b;
-    n[j] = a;
-    n
+    m.swap(i, j);
+    m
 }
 
 // A row less f times the pivot's, from the column on.
-fn minus_from(col: usize, f: f64, r: [f64; 4], pivot: [f64; 4]) -> [f64; 4]
+fn minus_from(col: usize, f: f64, mut r: [f64; 4], pivot: [f64; 4]) -> [f64; 4]
     ensures { result ≡ minus_from col f r pivot }
 {
-    let mut x = r;
-    let mut j = col;
-    while j < 4 {
-        x[j] = x[j] - f * pivot[j];
-        j += 1;
+    for j in col..4 {
+        r[j] -= f * pivot[j];
     }
-    x
+    r
 }
 
+#[tactic(auto, unfolding(crate::specs::Solve::reduced))]
 fn reduced(col: usize, pivot: [f64; 4], r: [f64; 4]) -> [f64; 4]
     requires { col < 3 }
     ensures { result ≡ reduced col pivot r }
@@ -89,57 +82,49 @@ fn reduced(col: usize, pivot: [f64; 4], r: [f64; 4]) -> [f64; 4]
 }
 
 // The column is cleared below the diagonal.
-fn eliminated(m: [[f64; 4]; 3], col: usize) -> [[f64; 4]; 3]
+fn eliminated(mut m: [[f64; 4]; 3], col: usize) -> [[f64; 4]; 3]
     requires { col < 3 }
     ensures { result ≡ eliminated m col }
 {
     let pivot = m[col];
-    let mut n = m;
-    let mut i = col + 1;
-    while i < 3 {
-        let r = n[i];
-        let x = reduced(col, pivot, r);
-        n[i] = x;
-        i += 1;
+    for i in col + 1..3 {
+        m[i] = reduced(col, pivot, m[i]);
     }
-    n
+    m
 }
 
+#[tactic(auto, unfolding(crate::specs::Solve::if_finite))]
 fn if_finite(x: f64, y: f64, z: f64) -> Solution
     ensures { result ≡ if_finite x y z }
 {
-    if is_finite(x) {
-        if is_finite(y) {
-            if is_finite(z) {
-                return Solution::Solved(x, y, z);
-            }
-        }
+    if is_finite(x) && is_finite(y) && is_finite(z) {
+        Solution::Solved(x, y, z)
+    } else {
+        Solution::Failed
     }
-    Solution::Failed
 }
 
 // Whether back substitution may divide by d.
+#[tactic(auto, unfolding(crate::specs::Solve::divides))]
 fn divides(d: f64) -> bool
     ensures { result ≡ divides d }
 {
-    if abs(d) < TINY { false } else { true }
+    !(abs(d) < TINY)
 }
 
 // Back substitution, from the last row up.
+#[tactic(auto, unfolding(crate::specs::Solve::substituted))]
 fn substituted(m: [[f64; 4]; 3]) -> Solution
     ensures { result ≡ substituted m }
 {
-    if divides(m[2][2]) {
-        if divides(m[1][1]) {
-            if divides(m[0][0]) {
-                let z = m[2][3] / m[2][2];
-                let y = (m[1][3] - m[1][2] * z) / m[1][1];
-                let x = (m[0][3] - m[0][1] * y - m[0][2] * z) / m[0][0];
-                return if_finite(x, y, z);
-            }
-        }
+    if divides(m[2][2]) && divides(m[1][1]) && divides(m[0][0]) {
+        let z = m[2][3] / m[2][2];
+        let y = (m[1][3] - m[1][2] * z) / m[1][1];
+        let x = (m[0][3] - m[0][1] * y - m[0][2] * z) / m[0][0];
+        if_finite(x, y, z)
+    } else {
+        Solution::Failed
     }
-    Solution::Failed
 }
 
 // The solution of a x = b. It fails where a column's largest magnitude is below TINY or not finite, where a diagonal entry is below TINY,
@@ -148,16 +133,12 @@ pub fn solve_3x3(a: [[f64; 3]; 3], b: [f64; 3]) -> Solution
     ensures { result ≡ solve3x3 a b }
 {
     let mut m = beside(a, b);
-    let mut col: usize = 0;
-    while col < 3 {
+    for col in 0..3 {
         let p = pivot_of(m, col);
-        if usable(p.size) {
-            let next = eliminated(swapped(m, col, p.row), col);
-            m = next;
-        } else {
+        if !usable(p.size) {
             return Solution::Failed;
         }
-        col += 1;
+        m = eliminated(swapped(m, col, p.row), col);
     }
     substituted(m)
 }

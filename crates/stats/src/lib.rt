@@ -11,7 +11,7 @@ mod selection; // selection.rt: the element at a place of the order
 const MAD_SCALE: f64 = 1.4826;
 
 // The median, and the standard deviation that the median absolute deviation stands for.
-#[derive(Drop)]
+#[derive(Clone, Copy)]
 pub struct MedianSigma {
     pub median: f64,
     pub sigma: f64,
@@ -21,10 +21,8 @@ pub struct MedianSigma {
 fn deviate(vals: &mut [f64], m: f64)
     ensures { vals.new ≡ deviations m vals.old }
 {
-    let mut i: usize = 0;
-    while i < vals.len() {
-        vals[i] = rounding::abs(vals[i] - m);
-        i += 1;
+    for x in vals {
+        *x = rounding::abs(*x - m);
     }
 }
 
@@ -44,6 +42,6 @@ pub fn median_mad_sigma(vals: &mut [f64]) -> MedianSigma
     let median = selection::select(vals, mid);
     deviate(vals, median);
     let sigma = MAD_SCALE * selection::select(vals, mid);
-    lists::clear_floats(vals, n);
+    lists::clear(vals, n);
     MedianSigma { median, sigma }
 }

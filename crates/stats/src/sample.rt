@@ -4,55 +4,15 @@ ghost use Rattle.std.specs.Prelude.{◌+◌, ◌*◌, ◌<◌, ◌≤◌, length
 use rounding::total_key;
 
 // Where in its part the place that is sought lies. The threshold is then chosen on its far side from the nearer end, so that the short side is kept.
-#[derive(Clone, Copy)]
+#[derive(Clone, Copy, Debug, PartialEq, Eq)]
 enum Side {
     Low,
     Middle,
     High,
 }
 
-fn least(a: u64, b: u64) -> u64 {
-    if a < b { a } else { b }
-}
-
-fn greatest(a: u64, b: u64) -> u64 {
-    if a < b { b } else { a }
-}
-
 fn middle_of(a: u64, b: u64, c: u64) -> u64 {
-    greatest(least(a, b), least(greatest(a, b), c))
-}
-
-// The least, the middle or the greatest key of three elements, a step apart.
-fn three(v: &[f64], at: usize, step: usize, side: Side) -> u64
-    requires { at + 2 * step < length v.now }
-{
-    let a = total_key(v[at]);
-    let b = total_key(v[at + step]);
-    let c = total_key(v[at + 2 * step]);
-    match side {
-        Side::Low => least(least(a, b), c),
-        Side::Middle => middle_of(a, b, c),
-        Side::High => greatest(greatest(a, b), c),
-    }
-}
-
-fn nine(v: &[f64], at: usize, step: usize, side: Side) -> u64
-    requires { at + 8 * step < length v.now }
-{
-    let a = three(v, at, step, side);
-    let b = three(v, at + 3 * step, step, side);
-    let c = three(v, at + 6 * step, step, side);
-    middle_of(a, b, c)
-}
-
-fn twenty_seven(v: &[f64], at: usize, step: usize, side: Side) -> u64
-    requires { at + 26 * step < length v.now }
-{
-    let a = nine(v, at, step, side);
-    let b = nine(v, at + 9 * step, step, side);
-    let c = nine(v, at + 18 * step, step, side);
-    middle_of(a, b, c)
+    a.min(b).max(a.max(b).min(c))
 }
 
 fn side_of(k: usize, n: usize) -> Side {
@@ -66,6 +26,49 @@ fn side_of(k: usize, n: usize) -> Side {
     Side::Middle
 }
 
+// Elements of a list, a step apart.
+#[derive(Clone, Copy)]
+struct Sample<'a> {
+    v: &'a [f64],
+    step: usize,
+    side: Side,
+}
+
+impl Sample<'_> {
+    // The least, the middle or the greatest key of three elements.
+    fn three(&self, at: usize) -> u64
+        requires { at + 2 * self.now.step < length self.now.v.now }
+    {
+        let a = total_key(self.v[at]);
+        let b = total_key(self.v[at + self.step]);
+        let c = total_key(self.v[at + 2 * self.step]);
+        match self.side {
+            Side::Low => a.min(b).min(c),
+            Side::Middle => middle_of(a, b, c),
+            Side::High => a.max(b).max(c),
+        }
+    }
+
+    fn nine(&self, at: usize) -> u64
+        requires { at + 8 * self.now.step < length self.now.v.now }
+    {
+        let a = self.three(at);
+        let b = self.three(at + 3 * self.step);
+        let c = self.three(at + 6 * self.step);
+        middle_of(a, b, c)
+    }
+
+    // Stays (no plainer): one function of nine and twenty-seven would take the next smaller one as a closure, which is longer than these four lines.
+    fn twenty_seven(&self, at: usize) -> u64
+        requires { at + 26 * self.now.step < length self.now.v.now }
+    {
+        let a = self.nine(at);
+        let b = self.nine(at + 9 * self.step);
+        let c = self.nine(at + 18 * self.step);
+        middle_of(a, b, c)
+    }
+}
+
 // A key near the one at place k of the order.
 fn near(v: &[f64], k: usize) -> u64
     requires { k < length v.now }
@@ -75,23 +78,22 @@ fn near(v: &[f64], k: usize) -> u64
         return total_key(v[k]);
     }
     let step = n / 27;
-    twenty_seven(v, step / 2, step, side_of(k, n))
+    let side = side_of(k, n);
+    Sample { v, step, side }.twenty_seven(step / 2)
 }
 
-// A threshold above a and at most z: from a sample, or half way.
-pub(crate) fn threshold(v: &[f64], k: usize, a: u64, z: u64, sampled: bool) -> u64
+// A threshold above a and at most z, from a sample.
+pub(crate) fn sampled(v: &[f64], k: usize, a: u64, z: u64) -> u64
     requires { (a < z) × (k < length v.now) }
     ensures { (a < result) × (result ≤ z) }
 {
-    if sampled {
-        let t = near(v, k);
-        if t <= a {
-            return a + 1;
-        }
-        if z < t {
-            return z;
-        }
-        return t;
-    }
+    near(v, k).clamp(a + 1, z)
+}
+
+// A threshold above a and at most z, half way.
+pub(crate) fn half_way(a: u64, z: u64) -> u64
+    requires { a < z }
+    ensures { (a < result) × (result ≤ z) }
+{
     a + (z - a) / 2 + 1
 }

@@ -3,26 +3,40 @@
 
 ghost use Rattle.std.specs.Prelude.{◌≤◌, ◌<◌, length, IfOk};
 
+mod entries; // entries.rt: files of entries with what is expected of each
+
+pub use entries::{Entries, Tally, each_file};
+use std::fmt;
 use std::io::Read;
 
-// Reads a file into the room, whole: it has to be shorter than the room, since one that fills it may go on. Answers how many bytes it has, or why it is
-// not to be had.
-pub fn read_file(rt: &HostRuntime, name: &str, room: &mut [u8]) -> Result<usize, &'static str>
-    ensures { IfOk result (λ n. n < length room.new) }
-{
-    match std::fs::open(rt, name) {
-        Ok(mut file) => shorter(read_full(&mut file, room), room),
-        Err(_) => Err("not to be opened"),
+// Why a file is not to be had.
+#[derive(Clone, Copy, Debug, PartialEq, Eq)]
+pub enum Unread {
+    NotOpened,
+    TooLong,
+}
+
+impl fmt::Display for Unread {
+    fn fmt<W: fmt::Write>(&self, f: &mut fmt::Formatter<W>) -> fmt::Result {
+        match self {
+            Unread::NotOpened => write!(f, "not to be opened"),
+            Unread::TooLong => write!(f, "too long"),
+        }
     }
 }
 
-fn shorter(n: usize, room: &[u8]) -> Result<usize, &'static str>
-    ensures { IfOk result (λ k. k < length room.now) }
+// Reads a file into the room, whole: it has to be shorter than the room, since one that fills it may go on. Answers how many bytes it has, or why it is
+// not to be had.
+pub fn read_file(rt: &HostRuntime, name: &str, room: &mut [u8]) -> Result<usize, Unread>
+    ensures { IfOk result (λ n. n < length room.new) }
 {
+    let mut file = std::fs::open(rt, name).map_err(|_| Unread::NotOpened)?;
+    let n = read_full(&mut file, room);
     if n < room.len() {
-        return Ok(n);
+        Ok(n)
+    } else {
+        Err(Unread::TooLong)
     }
-    Err("too long")
 }
 
 // Reads until the room is full, the input ends or a read fails. Answers how many bytes stand at the room's start.
@@ -44,8 +58,5 @@ pub fn read_full<R: Read>(reader: &mut R, room: &mut [u8]) -> usize
 fn read_some<R: Read>(reader: &mut R, room: &mut [u8]) -> usize
     ensures { result ≤ length room.new }
 {
-    match reader.read(room) {
-        Ok(n) => n,
-        Err(_) => 0,
-    }
+    reader.read(room).unwrap_or(0)
 }

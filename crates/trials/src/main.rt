@@ -7,7 +7,7 @@ mod afterwards; // afterwards.rt: the lists after refusals 14 and 17
 mod cuts; // cuts.rt: directions at the cut
 mod runs; // runs.rt: refusals 12 and 13
 mod two_calls; // two_calls.rt: two calls that differ
-mod tell; // tell.rt: what is written
+mod call; // call.rt: a call, and what is written of a trial
 
 // 1e-12, the cut of the trials that are about something else.
 pub(crate) const LEAST_CUT: f64 = 1e-12;

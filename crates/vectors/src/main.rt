@@ -4,85 +4,39 @@
 // a line that starts with # is a remark. Each file's first lines say how it was made.
 #![tactic(auto)]
 
-mod fitting;
-mod geometry;
-mod line;
-mod list;
-mod matrices;
-mod pairing;
-mod querying;
-mod sampling;
-mod scalar;
-mod word;
+mod answer; // answer.rt: answers held against the expected numbers
+mod fitting; // fitting.rt: the fit over lists
+mod geometry; // geometry.rt: points
+mod line; // line.rt: one line of a file
+mod matrices; // matrices.rt: matrices and the solver
+mod pairing; // pairing.rt: the matcher
+mod querying; // querying.rt: the cone query
+mod sampling; // sampling.rt: the medians and the clip
+mod scalar; // scalar.rt: numbers
+mod word; // word.rt: the numbers of a line as arguments
 
-use streams::read_file;
+use line::Lines;
+use streams::each_file;
 
 fn main(rt: HostRuntime) {
-    each_file(
+    each_file::<Lines>(
         &rt,
         "sqrt64.txt sqrt32.txt narrow.txt widen.txt methods.txt",
     );
-    each_file(&rt, "sin.txt cos.txt cos32.txt atan.txt asin.txt atan2.txt");
-    each_file(&rt, "medians.txt matches.txt capacity.txt orderings.txt");
-    each_file(
+    each_file::<Lines>(&rt, "sin.txt cos.txt cos32.txt atan.txt asin.txt atan2.txt");
+    each_file::<Lines>(&rt, "medians.txt matches.txt capacity.txt orderings.txt");
+    each_file::<Lines>(
         &rt,
         "tan_project.txt inverse_tan_project.txt rotations.txt wcs_to_rotation.txt",
     );
-    each_file(&rt, "vectors.txt solve_3x3.txt covariance.txt");
-    each_file(
+    each_file::<Lines>(&rt, "vectors.txt solve_3x3.txt covariance.txt");
+    each_file::<Lines>(
         &rt,
         "accumulate.txt fits.txt normal_matrix.txt residuals.txt clips.txt",
     );
-    each_file(
+    each_file::<Lines>(
         &rt,
         "grazing.txt grazing_residuals.txt weighted_sums.txt weighted_fits.txt",
     );
-    each_file(&rt, "axis.txt query.txt");
-}
-
-// The files whose names these are, with spaces between them.
-fn each_file(rt: &HostRuntime, names: &str) {
-    for name in names.split(' ') {
-        run_file(rt, name);
-    }
-}
-
-pub(crate) fn say(rt: &HostRuntime, text: &[u8]) {
-    let _ = rt.write_all(text);
-}
-
-fn run_file(rt: &HostRuntime, name: &str) {
-    let _ = print!(rt; "{name}: ");
-    let mut room = [0u8; 65536];
-    match read_file(rt, name, &mut room) {
-        Ok(n) => run_lines(rt, &room[..n]),
-        Err(why) => {
-            let _ = println!(rt; "{why}");
-        }
-    }
-}
-
-// Every line of the text, with room for the numbers of one.
-fn run_lines(rt: &HostRuntime, text: &[u8]) {
-    let mut a = [0usize; 128];
-    let mut e = [0usize; 64];
-    each_line(rt, text, &mut a, &mut e);
-}
-
-fn each_line(rt: &HostRuntime, text: &[u8], a: &mut [usize], e: &mut [usize]) {
-    let mut same: u64 = 0;
-    let mut other: u64 = 0;
-    let mut at = 0;
-    while at < text.len() {
-        let to = word::end(text, at, 10);
-        let t = line::run(rt, &text[at..to], a, e);
-        same = std::num::wrapping_add_u64(same, t.same);
-        other = std::num::wrapping_add_u64(other, t.other);
-        at = to + 1;
-    }
-    report(rt, same, other);
-}
-
-fn report(rt: &HostRuntime, same: u64, other: u64) {
-    let _ = println!(rt; "{same} as expected, {other} not");
+    each_file::<Lines>(&rt, "axis.txt query.txt");
 }

@@ -16,11 +16,13 @@ use Rattle.query.specs.Query.{Cache, Prediction}
 use Rattle.wcs_refine.specs.Associate.{laid, renamed, same_matches}
 use Rattle.wcs_refine.specs.Listing.{renamed_by}
 use Rattle.wcs_refine.specs.Round.{State, Next, go, done, refuse, settled, associated, compared}
-use Rattle.wcs_refine.specs.Keeping.{cache_of, held_cache, held_matches, held_state, with_used, next_of, Matchable, Fits, Predicted, AssociatedTo}
-use Rattle.wcs_refine.specs.Comparing.{Kept, Comparable, Compared, NewAt, FoundTo}
+use Rattle.wcs_refine.specs.Keeping.{cache_of, held_cache, held_matches, held_state, with_used, next_of, Fits, Predicted, AssociatedTo}
+use Rattle.wcs_refine.specs.Comparing.{Kept, Comparable, Compared, NewAt, Tallied, FoundTo}
 use Rattle.wcs_refine.specs.declared.associating.Tally.{Tally}
 use Rattle.query.specs.declared.Held.{Held}
 use Rattle.wcs_refine.specs.declared.keeping.Verdict.TheVariants.{GoOn, Done, Refused}
+use Rattle.std.specs.Prelude.{Option, Some, None, is_none, IfSome}
+use Rattle.refusal.specs.declared.Refusal.TheVariants.{ManyPairs}
 use Rattle.wcs_refine.proofs.Meant.{renamed_is}
 use Rattle.wcs_refine.proofs.NewMatches.{lone_matches, renamed_many}
 use Rattle.wcs_refine.proofs.FindSteps.{slice_front}
@@ -96,8 +98,8 @@ module _ (p : Pose) (ms : List ℕ) (c : Cache) (new : List ℕ) where
 
 -- ---- the answers
 
-module _ (k : Settings) (n q : ℕ) (spots floats d : List Float) (ix before : List ℕ) (h : Held) (r : Float) (after : List ℕ) (f : Tally)
-    (g : Matchable k n q (length spots / 2) before floats d ix) (fits : Fits k n h) (few : k.count ≤ n)
+module _ (k : Settings) (n q : ℕ) (spots floats d : List Float) (ix before : List ℕ) (h : Held) (r : Float) (after : List ℕ) (f : Option Tally)
+    (lent : k.capacity ≡ capacity d ix) (room : length spots / 2 + q ≤ n) (many : 16 * n ≤ length before) (fits : Fits k n h) (few : k.count ≤ n)
     (w : FoundTo n q spots k.limit r floats d ix before after f) where
   abbrev points : List Float
   points = slice (2 * n) (2 * n + 2 * q) floats
@@ -111,9 +113,9 @@ module _ (k : Settings) (n q : ℕ) (spots floats d : List Float) (ix before : L
   abbrev wanted : List Prediction → Next
   wanted qs = associated (fixed_of k) spots h.pose (held_matches h before) (held_cache n h before) r qs
 
-  over_is : (qs : List Prediction) → Predicted n q before floats qs → ltb k.capacity (length (pairs spots k.limit (laid qs) (r ⊗ r))) ≡ f.full
+  over_is : (qs : List Prediction) → Predicted n q before floats qs → ltb k.capacity (length (pairs spots k.limit (laid qs) (r ⊗ r))) ≡ is_none f
   over_is qs p =
-      ap (λ (m : ℕ). ltb m (length (pairs spots k.limit (laid qs) (r ⊗ r)))) g.capacity
+      ap (λ (m : ℕ). ltb m (length (pairs spots k.limit (laid qs) (r ⊗ r)))) lent
       ∙ ap (λ (l : List Float). ltb (capacity d ix) (length (pairs spots k.limit l (r ⊗ r)))) p.points ∙ sym w.full
 
   new_is : (qs : List Prediction) → Predicted n q before floats qs → renamed qs (matches_of spots k.limit (laid qs) (r ⊗ r)) ≡ new
@@ -121,7 +123,7 @@ module _ (k : Settings) (n q : ℕ) (spots floats d : List Float) (ix before : L
       ap (λ (l : List Float). renamed qs (matches_of spots k.limit l (r ⊗ r))) p.points ∙ sym (renamed_is qs found)
       ∙ ap (λ (l : List ℕ). renamed_by l (flat found)) p.ids
 
-  wanted_is : (qs : List Prediction) → Predicted n q before floats qs → (b : Bool) → f.full ≡ b
+  wanted_is : (qs : List Prediction) → Predicted n q before floats qs → (b : Bool) → is_none f ≡ b
       → cond b (refuse 13) (settled h.pose (held_matches h before) (held_cache n h before) new) ≡ wanted qs
   unfolding associated
   wanted_is qs p b e =
@@ -130,34 +132,39 @@ module _ (k : Settings) (n q : ℕ) (spots floats d : List Float) (ix before : L
       (over_is qs p ∙ e)
       ∙ ap (λ (l : List ℕ). cond b (refuse 13) (settled h.pose (held_matches h before) (held_cache n h before) l)) (new_is qs p))
 
-  -- the comparisons on the predictions
-  compared_is : (qs : List Prediction) → Predicted n q before floats qs → f.comparisons ≡ compared (fixed_of k) spots r qs
-  unfolding compared
-  compared_is qs p =
-      w.comparisons ∙ ap (λ (l : List Float). cond f.full 0 (comparisons not_after (pairs spots k.limit l (r ⊗ r)))) (sym p.points)
-      ∙ ap (λ (b : Bool). cond b 0 (comparisons not_after (pairs spots k.limit (laid qs) (r ⊗ r)))) (sym (over_is qs p))
-
-  pub refused : {last : List ℕ} → f.full ≡ true
-      → AssociatedTo k n spots h r q before floats last (record { held = h; verdict = Refused 13; comparisons = 0 })
-  unfolding next_of
+  pub refused : {last : List ℕ} → f ≡ None
+      → AssociatedTo k n spots h r q before floats last (record { held = h; verdict = Refused ManyPairs; comparisons = 0 })
+  unfolding next_of compared
   refused e = record {
-    next = λ qs p. wanted_is qs p true e;
-    comparisons = λ qs p.
-        sym (w.comparisons ∙ ap (λ (b : Bool). cond b 0 (comparisons not_after (pairs spots k.limit points (r ⊗ r)))) e) ∙ compared_is qs p;
+    next = λ qs p. wanted_is qs p true (ap is_none e);
+    comparisons = λ qs p. ap (λ (b : Bool). cond b 0 (comparisons not_after (pairs spots k.limit (laid qs) (r ⊗ r)))) (sym (over_is qs p ∙ ap is_none e));
     fits = fits;
   }
 
-  module _ (e : f.full ≡ false) where
-    abbrev at : NewAt n f.within f.count new before after
-    at = (w.found e).1
+  module _ (t : Tally) (some : f ≡ Some t) where
+    e : is_none f ≡ false
+    e = ap is_none some
 
-    new_many : length new ≡ 2 * f.count
-    new_many = omega (arith, renamed_many (slice (3 * n) (3 * n + q) before) found, (w.found e).0)
+    told : Tallied n q spots k.limit r floats before after t
+    told = subst (λ (x : Option Tally). IfSome x (Tallied n q spots k.limit r floats before after)) some w.found
+
+    abbrev at : NewAt n t.within t.count new before after
+    at = told.there
+
+    -- the comparisons on the predictions
+    compared_is : (qs : List Prediction) → Predicted n q before floats qs → t.comparisons ≡ compared (fixed_of k) spots r qs
+    unfolding compared
+    compared_is qs p =
+        told.comparisons ∙ ap (λ (l : List Float). comparisons not_after (pairs spots k.limit l (r ⊗ r))) (sym p.points)
+        ∙ ap (λ (b : Bool). cond b 0 (comparisons not_after (pairs spots k.limit (laid qs) (r ⊗ r)))) (sym (over_is qs p ∙ e))
+
+    new_many : length new ≡ 2 * t.count
+    new_many = omega (arith, renamed_many (slice (3 * n) (3 * n + q) before) found, told.count)
 
     -- the state as it came
     stayed : {last : List ℕ} → take (4 * n) last ≡ take (4 * n) before
         → done (held_state n h before) ≡ settled h.pose (held_matches h before) (held_cache n h before) new
-        → AssociatedTo k n spots h r q before floats last (record { held = h; verdict = Done; comparisons = f.comparisons })
+        → AssociatedTo k n spots h r q before floats last (record { held = h; verdict = Done; comparisons = t.comparisons })
     unfolding next_of
     stayed {last} same x = record {
       next = λ qs p.
@@ -167,21 +174,21 @@ module _ (k : Settings) (n q : ℕ) (spots floats d : List Float) (ix before : L
       fits = fits;
     }
 
-    pub too_few : f.count < 4 → AssociatedTo k n spots h r q before floats after (record { held = h; verdict = Done; comparisons = f.comparisons })
+    pub too_few : t.count < 4 → AssociatedTo k n spots h r q before floats after (record { held = h; verdict = Done; comparisons = t.comparisons })
     too_few x = stayed at.front (settled_few h.pose (held_matches h before) (held_cache n h before) new (omega (arith, new_many)))
 
-    pub can_compare : Comparable (4 * n) f.within (8 * n) f.count h.used after
+    pub can_compare : Comparable (4 * n) t.within (8 * n) t.count h.used after
     can_compare = record {
       places = record {
         present = omega (arith, fits.used);
-        table = omega (arith, w.within, g.room);
-        fits = omega (arith, at.room, at.long, g.many);
+        table = omega (arith, told.within, room);
+        fits = omega (arith, at.room, at.long, many);
       };
       zeros = at.zeros;
-      lone = rw (at.list, w.within) (lone_matches spots k.limit points (r ⊗ r) (slice (3 * n) (3 * n + q) before));
+      lone = rw (at.list, told.within) (lone_matches spots k.limit points (r ⊗ r) (slice (3 * n) (3 * n + q) before));
     }
 
-    module _ {m : List ℕ} {b : Bool} (x : Compared (4 * n) f.within (8 * n) f.count h.used m after b) where
+    module _ {m : List ℕ} {b : Bool} (x : Compared (4 * n) t.within (8 * n) t.count h.used m after b) where
       answer : b ≡ same_matches new (held_matches h before)
       answer =
           x.answer ∙ ap (λ (l : List ℕ). same_matches l (take (2 * h.used) after)) at.list
@@ -190,27 +197,27 @@ module _ (k : Settings) (n q : ℕ) (spots floats d : List Float) (ix before : L
       front : take (4 * n) m ≡ take (4 * n) before
       front = x.kept.front ∙ at.front
 
-      pub not_new : b ≡ true → AssociatedTo k n spots h r q before floats m (record { held = h; verdict = Done; comparisons = f.comparisons })
+      pub not_new : b ≡ true → AssociatedTo k n spots h r q before floats m (record { held = h; verdict = Done; comparisons = t.comparisons })
       not_new y = stayed front (settled_same h.pose (held_matches h before) (held_cache n h before) new (sym answer ∙ y))
 
-      there : slice (8 * n) (8 * n + 2 * f.count) m ≡ new
+      there : slice (8 * n) (8 * n + 2 * t.count) m ≡ new
       there =
-          slice_kept (4 * n) f.within (8 * n) (8 * n + 2 * f.count) m after x.kept (omega (arith, w.within, g.room)) (omega (arith, at.room, at.long, g.many))
+          slice_kept (4 * n) t.within (8 * n) (8 * n + 2 * t.count) m after x.kept (omega (arith, told.within, room)) (omega (arith, at.room, at.long, many))
           ∙ at.list
 
-      pub taken : {last : List ℕ} {next : Held} → b ≡ false → 4 ≤ f.count → last ≡ slice (8 * n) (8 * n + 2 * f.count) m ++ drop (2 * f.count) m
-          → next ≡ with_used h f.count
-          → AssociatedTo k n spots h r q before floats last (record { held = next; verdict = GoOn; comparisons = f.comparisons })
+      pub taken : {last : List ℕ} {next : Held} → b ≡ false → 4 ≤ t.count → last ≡ slice (8 * n) (8 * n + 2 * t.count) m ++ drop (2 * t.count) m
+          → next ≡ with_used h t.count
+          → AssociatedTo k n spots h r q before floats last (record { held = next; verdict = GoOn; comparisons = t.comparisons })
       unfolding next_of
       taken {last} {next} y z brought is =
-          let now : last ≡ new ++ drop (2 * f.count) m = brought ∙ ap (λ (l : List ℕ). l ++ drop (2 * f.count) m) there in
-          let ms : take (2 * f.count) last ≡ new = ap (take (2 * f.count)) now ∙ take_at new (drop (2 * f.count) m) (2 * f.count) new_many in
+          let now : last ≡ new ++ drop (2 * t.count) m = brought ∙ ap (λ (l : List ℕ). l ++ drop (2 * t.count) m) there in
+          let ms : take (2 * t.count) last ≡ new = ap (take (2 * t.count)) now ∙ take_at new (drop (2 * t.count) m) (2 * t.count) new_many in
           let part : slice (2 * n) (2 * n + h.cached) last ≡ slice (2 * n) (2 * n + h.cached) before =
           ap (slice (2 * n) (2 * n + h.cached)) now
-          ∙ slice_behind (2 * n) (2 * n + h.cached) new m (2 * f.count) new_many (omega (arith, at.room)) (omega arith)
-          (omega (arith, fits.cached, at.long, g.many, x.kept.long))
+          ∙ slice_behind (2 * n) (2 * n + h.cached) new m (2 * t.count) new_many (omega (arith, at.room)) (omega arith)
+          (omega (arith, fits.cached, at.long, many, x.kept.long))
           ∙ slice_front (2 * n) (2 * n + h.cached) (4 * n) m before (omega (arith, fits.cached)) front in
-          subst (λ (s : Held). AssociatedTo k n spots h r q before floats last (record { held = s; verdict = GoOn; comparisons = f.comparisons })) (sym is)
+          subst (λ (s : Held). AssociatedTo k n spots h r q before floats last (record { held = s; verdict = GoOn; comparisons = t.comparisons })) (sym is)
           (record {
             next = λ qs p.
                 ap (λ (s : State). go s) (state_of ms (ap (cache_of h.filled h.boresight h.theta) part))

@@ -19,7 +19,7 @@ use Rattle.wcs_refine.specs.Associate.{laid}
 use Rattle.wcs_refine.specs.Round.{State, Next, go, done, refuse, Found, compared, fresh, reused, searched, rest, fitted, round, Ending, refused, ended, Run, carry, loop}
 use Rattle.wcs_refine.specs.Closing.{Closed, unsound, fine, cleaned}
 use Rattle.wcs_refine.specs.Call.{start, run_of, closed, finished, answer_after, answer, outcome}
-use Rattle.wcs_refine.specs.Returned.{refused_with, accepted, values_of, Returned, returned}
+use Rattle.wcs_refine.specs.Returned.{refused_with, accepted, handed, values_of, Returned, returned}
 use Rattle.wcs_refine.specs.Meaning.{fit, measured, spread, radius, listed_by, predicted, found}
 use Rattle.wcs_refine.specs.Ceiling.{RoundCeiling, CallCeiling}
 use Rattle.wcs_refine.proofs.Along.{either}
@@ -152,5 +152,5 @@ run_within c b h = loop_within (fixed c) c.spots c.directions b h c.given.rounds
 pub call_ceiling : CallCeiling
 unfolding returned outcome answer fixed
 call_ceiling c r l b is h =
-    let same : r.comparisons ≡ (values_of (answer c)).comparisons = ap (λ (x : Returned). x.result.comparisons) is in
+    let same : (handed r).comparisons ≡ (values_of (answer c)).comparisons = ap (λ (x : Returned). x.result.comparisons) is in
     omega (arith, answered_within c (refusal c), run_within c b h.reaches)

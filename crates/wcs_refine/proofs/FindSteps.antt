@@ -8,9 +8,11 @@ use Rattle.matching.specs.Merge.{not_after}
 use Rattle.matching.specs.Comparisons.{comparisons}
 use Rattle.matching.specs.Greedy.{Match, flat, matches_of, placed, overfull, Outcome, greedy_unique_matches, greedy_by_strips}
 use Rattle.pairs.specs.Candidates.{capacity}
-use Rattle.matching.specs.declared.Matched.{Matched}
-use Rattle.matching.specs.declared.Matched.TheVariants.{Matches, TooMany}
+use Rattle.std.specs.Prelude.{Result, Ok, Err}
+use Rattle.refusal.specs.declared.Refusal.{Refusal}
+use Rattle.refusal.specs.declared.Refusal.TheVariants.{ManyPairs, ShortList}
 use Rattle.wcs_refine.specs.Listing.{renamed_by}
+use Rattle.wcs_refine.specs.Keeping.{points_at}
 use Rattle.wcs_refine.specs.Comparing.{NewAt}
 use Rattle.wcs_refine.proofs.FewMatches.{few_matches}
 use Rattle.matching.proofs.Calls.{flat_many}
@@ -35,9 +37,21 @@ pub slice_front : {A : Type 0} (a e n : ℕ) (l m : List A) → e ≤ n → take
 slice_front {A} a e n l m h same =
     ap (drop a) (sym (take-take e n l h) ∙ ap (take e) same ∙ take-take e n m h)
 
+-- ---- the points of k spots, which stand in their regions
+
+module _ (n k : ℕ) (floats : List Float) (fits : 4 * n + 2 * k ≤ length floats) where
+  pub at_many : length (points_at n k floats) / 2 ≡ k
+  at_many = omega (arith, length-slice (4 * n) (4 * n + 2 * k) floats fits)
+
+  pub on_points : (limit : ℕ) (qs : List Float) (r2 : Float) (d : List Float) (ix w : List ℕ) {o : Outcome}
+      → o ≡ greedy_by_strips (take (4 * n + 2 * k - 4 * n) (drop (4 * n) floats)) limit qs r2 d ix w
+      → o ≡ greedy_by_strips (points_at n k floats) limit qs r2 d ix w
+  on_points limit qs r2 d ix w did =
+      did ∙ ap (λ (x : List Float). greedy_by_strips x limit qs r2 d ix w) (part_is (4 * n) (4 * n + 2 * k) floats (omega arith) fits)
+
 -- ---- the matcher's answer
 
-abbrev outcome_of : Matched → ℕ → List Float → List ℕ → List ℕ → Outcome
+abbrev outcome_of : Result ℕ Refusal → ℕ → List Float → List ℕ → List ℕ → Outcome
 outcome_of x m d ix w = record { answer = x; comparisons = m; distances = d; indices = ix; work = w }
 
 module _ (n q : ℕ) (spots : List Float) (limit : ℕ) (floats : List Float) (r2 : Float) (d : List Float) (ix o : List ℕ)
@@ -77,7 +91,7 @@ module _ (n q : ℕ) (spots : List Float) (limit : ℕ) (floats : List Float) (r
   abbrev fitted : Outcome
   fitted = placed (within + length points / 2) (length (pairs spots limit points r2)) compared found d ix inner
 
-  module _ {x : Matched} {m : ℕ} {d' : List Float} {ix' w : List ℕ}
+  module _ {x : Result ℕ Refusal} {m : ℕ} {d' : List Float} {ix' w : List ℕ}
       (did : outcome_of x m d' ix' w ≡ greedy_by_strips spots limit (take (2 * n + 2 * q - 2 * n) (drop (2 * n) floats)) r2 d ix work) where
     enough : 2 * within + (within + length points / 2 + 2 * min within (length points / 2)) ≤ length work
     enough = omega (arith, points_many, work_many)
@@ -86,19 +100,19 @@ module _ (n q : ℕ) (spots : List Float) (limit : ℕ) (floats : List Float) (r
     unfolding greedy_by_strips greedy_unique_matches
     told =
         did ∙ ap (λ (z : List Float). greedy_by_strips spots limit z r2 d ix work) (part_is (2 * n) (2 * n + 2 * q) floats (omega arith) (omega arith))
-        ∙ ap (λ (b : Bool). cond b (outcome_of Matched.Short 0 d ix work) (behind_strips (greedy_unique_matches spots limit points r2 d ix inner)))
+        ∙ ap (λ (b : Bool). cond b (outcome_of (Err ShortList) 0 d ix work) (behind_strips (greedy_unique_matches spots limit points r2 d ix inner)))
         (le-ltb (length work) (2 * within + (within + length points / 2 + 2 * min within (length points / 2))) enough)
-        ∙ ap (λ (b : Bool). behind_strips (cond b (outcome_of Matched.Short 0 d ix inner) (cond over (overfull d ix inner) fitted)))
+        ∙ ap (λ (b : Bool). behind_strips (cond b (outcome_of (Err ShortList) 0 d ix inner) (cond over (overfull d ix inner) fitted)))
         (le-ltb (length inner) (within + length points / 2 + 2 * min within (length points / 2)) (omega (arith, enough, length-drop (2 * within) work)))
 
-    if_over : over ≡ true → x ≡ TooMany
+    if_over : over ≡ true → x ≡ Err ManyPairs
     unfolding overfull
     if_over e = ap (λ (z : Outcome). z.answer) (told ∙ ap (λ (b : Bool). behind_strips (cond b (overfull d ix inner) fitted)) e)
 
     if_fits : over ≡ false → outcome_of x m d' ix' w ≡ behind_strips fitted
     if_fits e = told ∙ ap (λ (b : Bool). behind_strips (cond b (overfull d ix inner) fitted)) e
 
-    fits_answer : over ≡ false → x ≡ Matches (length found)
+    fits_answer : over ≡ false → x ≡ Ok (length found)
     unfolding placed
     fits_answer e = ap (λ (z : Outcome). z.answer) (if_fits e)
 
@@ -116,23 +130,23 @@ module _ (n q : ℕ) (spots : List Float) (limit : ℕ) (floats : List Float) (r
         ∙ ap (λ (k : ℕ). replicate k 0 ++ flat found ++ rest) all
 
     -- no count of matches: too many pairs
-    pub too_many : ((t : ℕ) → x ≡ Matches t → ⊥) → true ≡ over
+    pub too_many : ((t : ℕ) → x ≡ Ok t → ⊥) → true ≡ over
     too_many h = by over refl
       where
         by : (b : Bool) → over ≡ b → true ≡ b
         by true e = refl
         by false e = absurd (h (length found) (fits_answer e))
 
-    module _ {t : ℕ} (is : x ≡ Matches t) (kept : length w ≡ length work) where
+    module _ {t : ℕ} (is : x ≡ Ok t) (kept : length w ≡ length work) where
       pub not_over : false ≡ over
       not_over = by over refl
         where
           by : (b : Bool) → over ≡ b → false ≡ b
-          by true e = let f : x ≡ TooMany = if_over e in let z : ◌≡◌ {A = ℕ} 0 1 = cc in absurd (omega arith)
+          by true e = let f : x ≡ Err ManyPairs = if_over e in let z : ◌≡◌ {A = ℕ} 0 1 = cc in absurd (omega arith)
           by false e = refl
 
       pub count_is : t ≡ length found
-      count_is = let f : x ≡ Matches (length found) = fits_answer (sym not_over) in cc
+      count_is = let f : x ≡ Ok (length found) = fits_answer (sym not_over) in cc
 
       pub compared_is : m ≡ compared
       unfolding placed

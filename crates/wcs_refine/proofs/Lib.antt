@@ -14,6 +14,7 @@ pub mod ReportSteps
 pub mod Listed
 pub mod Meant
 pub mod Points
+pub mod Lent
 pub mod LookSteps
 pub mod RoundSteps
 pub mod RunSteps

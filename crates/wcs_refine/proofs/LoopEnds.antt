@@ -1,4 +1,6 @@
 -- Where the loop ends: in a state with no more matches than the start, or than spots within the limit, or with a refusal. Assumes nothing.
+use Rattle.stats.specs.declared.MedianSigma.{MedianSigma}
+use Rattle.std.specs.Prelude.{Option, Some, None}
 use Rattle.std.proofs.Common.{◌≡◌, ℕ, zero, suc, ◌+◌, ◌*◌, ◌/◌, ◌≤◌, Bool, true, false, not, ◌&&◌, ltb, leb, List, [], length, refl, arith, length-take}
 use lib.Ieee.{Float}
 use Rattle.rounding.specs.Arith.{◌⊗◌}
@@ -8,11 +10,9 @@ use Rattle.project.specs.Camera.{boresight, camera_rows}
 use Rattle.fit.specs.Rows.{Row, rows, view_of}
 use Rattle.residuals.specs.Residual.{residuals, mad_clip_matches}
 use Rattle.fit.specs.declared.Pose.{Pose}
-use Rattle.residuals.specs.declared.Clip.{Clip}
-use Rattle.residuals.specs.declared.Clip.TheVariants.{Kept, Unchanged}
 use Rattle.entry.specs.Fixed.{Fixed}
 use Rattle.passes.specs.Fit.{Passes, fit_passes}
-use Rattle.wcs_refine.specs.Clip.{Statistics, none, some, statistics, taken, clipped}
+use Rattle.wcs_refine.specs.Clip.{statistics, taken, clipped}
 use Rattle.query.specs.Query.{Cache, empty, full, query, drifted, Prediction, predictions, pruned}
 use Rattle.panel.specs.Points.{within_limit, points_of}
 use Rattle.wcs_refine.specs.Associate.{adaptive_px, laid, renamed, same_matches}
@@ -24,15 +24,15 @@ use Rattle.wcs_refine.proofs.FewMatches.{few_matches, length_renamed}
 
 -- ---- a clip leaves no more
 
-taken_shorter : (c : Clip) (ms new : List ℕ) → ((n : ℕ) → c ≡ Kept n → n ≤ length ms / 2) → length (taken c ms new) ≤ length ms
+taken_shorter : (c : Option ℕ) (ms new : List ℕ) → ((n : ℕ) → c ≡ Some n → n ≤ length ms / 2) → length (taken c ms new) ≤ length ms
 unfolding taken
-taken_shorter Unchanged ms new h = omega arith
-taken_shorter (Kept n) ms new h = omega (arith, h n refl, length-take (n + n) new)
+taken_shorter None ms new h = omega arith
+taken_shorter (Some n) ms new h = omega (arith, h n refl, length-take (n + n) new)
 
-clipped_shorter : (rs : List Float) (t : Statistics) (ms : List ℕ) → length (clipped rs t ms) ≤ length ms
+clipped_shorter : (rs : List Float) (t : Option MedianSigma) (ms : List ℕ) → length (clipped rs t ms) ≤ length ms
 unfolding clipped
-clipped_shorter rs none ms = omega arith
-clipped_shorter rs (some t) ms =
+clipped_shorter rs None ms = omega arith
+clipped_shorter rs (Some t) ms =
     let x = mad_clip_matches rs ms t.median t.sigma in
     taken_shorter x.answer ms x.matches (clip_fewer rs ms x.matches t.median t.sigma {c = x.answer} refl)
 

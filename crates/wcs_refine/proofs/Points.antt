@@ -1,5 +1,5 @@
 -- The points of the spots in their regions, and the matcher on them. Assumes nothing.
-use Rattle.std.proofs.Common.{◌≡◌, ℕ, ◌+◌, ◌-◌, ◌*◌, ◌/◌, ◌≤◌, min, List, [], ◌++◌, length, take, drop, sym, ap, ◌∙◌, subst, append_assoc, append-nil, arith, length-append, length-drop, drop_of_length-le, length-take, length-take-le, take_at}
+use Rattle.std.proofs.Common.{◌≡◌, ℕ, ◌+◌, ◌-◌, ◌*◌, ◌/◌, ◌≤◌, min, List, [], ◌++◌, length, take, drop, sym, ap, ◌∙◌, append_assoc, append-nil, arith, length-append, length-drop, drop_of_length-le, length-take, length-take-le, take_at}
 use lib.Seq.{slice}
 use lib.Ieee.{Float}
 use Rattle.lists.specs.Fronted.{fronted}
@@ -11,9 +11,9 @@ use Rattle.entry.specs.Entry.{fixed_of}
 use Rattle.query.specs.declared.Held.{Held}
 use Rattle.query.specs.Query.{Prediction}
 use Rattle.wcs_refine.specs.Round.{associated, compared}
-use Rattle.wcs_refine.specs.Keeping.{held_cache, held_matches, PointsAt, Predicted, AssociatedTo}
+use Rattle.wcs_refine.specs.Keeping.{held_cache, held_matches, PointsAt, points_at, Predicted, AssociatedTo}
 use Rattle.wcs_refine.specs.declared.associating.Step.{Step}
-use Rattle.wcs_refine.proofs.FindSteps.{part_is, slice_at, slice_front}
+use Rattle.wcs_refine.proofs.FindSteps.{slice_at, slice_front}
 
 -- The matcher looks at all of the points.
 pub points_within : (spots : List Float) (limit : ℕ) → spots_within (points_of spots limit) limit ≡ within_limit spots limit
@@ -63,20 +63,13 @@ module _ (spots floats : List Float) (to k : ℕ) (fits : to + 2 * k ≤ length 
 
 -- ---- the matcher on the points, which stand in their regions
 
-pub laid_associated : (k : Settings) (n q within : ℕ) (floats : List Float) (h : Held) (r : Float) (before after : List ℕ) (s : Step)
-    → 4 * n + 2 * within ≤ length floats
-    → AssociatedTo k n (take (4 * n + 2 * within - 4 * n) (drop (4 * n) floats)) h r q before floats after s
-    → AssociatedTo k n (slice (4 * n) (4 * n + 2 * within) floats) h r q before floats after s
-laid_associated k n q within floats h r before after s fits a =
-    subst (λ (l : List Float). AssociatedTo k n l h r q before floats after s) (part_is (4 * n) (4 * n + 2 * within) floats (omega arith) fits) a
-
 pub spots_associated : (k : Settings) (n q within : ℕ) (spots floats laid : List Float) (h : Held) (r : Float) (before after : List ℕ) (s : Step) → q ≤ n
     → within ≡ within_limit spots k.limit → PointsAt spots within (4 * n) floats laid
-    → AssociatedTo k n (slice (4 * n) (4 * n + 2 * within) laid) h r q before laid after s
+    → AssociatedTo k n (points_at n within laid) h r q before laid after s
     → AssociatedTo k n (points_of spots k.limit) h r q before floats after s
 unfolding points_of
 spots_associated k n q within spots floats laid h r before after s few e p a =
-    let same : slice (4 * n) (4 * n + 2 * within) laid ≡ coordinates spots 0 (within_limit spots k.limit) = p.points ∙ ap (coordinates spots 0) e in
+    let same : points_at n within laid ≡ coordinates spots 0 (within_limit spots k.limit) = p.points ∙ ap (coordinates spots 0) e in
     let there : (qs : List Prediction) → Predicted n q before floats qs → Predicted n q before laid qs =
     λ qs w. record { ids = w.ids; points = w.points ∙ sym (p.front (2 * n) (2 * n + 2 * q) (omega arith)) } in
     record {

@@ -1,5 +1,7 @@
 -- Matches name only spots with P and directions with Q, and cached directions have Q: what each phase keeps of these, or makes from them, is so again.
 -- Assumes nothing.
+use Rattle.stats.specs.declared.MedianSigma.{MedianSigma}
+use Rattle.std.specs.Prelude.{Option, Some, None}
 use Rattle.std.proofs.Common.{◌≡◌, ℕ, zero, suc, ◌+◌, ◌*◌, ◌/◌, ◌<◌, ◌≤◌, Bool, ◌&&◌, ltb, leb, List, [], ◌∷◌, ◌++◌, length, get_or, drop, sym, refl, subst, arith, take_at}
 use lib.Ieee.{Float, nan, le}
 use Rattle.pairs.specs.Pairs.{Pair, Point, point_at, squared, within, pairs_of, pairs_from, pairs, spots_within}
@@ -7,9 +9,8 @@ use Rattle.matching.specs.Merge.{not_after, into, merge, merge_neighbours, merge
 use Rattle.matching.specs.Greedy.{Match, clashes, assigned, matches_of}
 use Rattle.residuals.specs.Residual.{keeps, kept_from, threshold_of, kept, Clipped, mad_clip_matches}
 use Rattle.fit.specs.Rows.{direction_at}
-use Rattle.residuals.specs.declared.Clip.TheVariants.{Kept, Unchanged}
 use Rattle.entry.specs.Fixed.{Fixed, prune_r, keep_r}
-use Rattle.wcs_refine.specs.Clip.{Statistics, none, some, taken, clipped}
+use Rattle.wcs_refine.specs.Clip.{taken, clipped}
 use Rattle.query.specs.Query.{Prediction, predicted, reaches, predictions, pruned}
 use Rattle.wcs_refine.specs.Associate.{Link, links, laid, direction_of, renamed}
 use Rattle.wcs_refine.proofs.Along.{All, ++-all, either}
@@ -151,16 +152,16 @@ module _ (P Q : ℕ → Type 0) where
   clip_all rs ms m s h =
       let ks = kept_from (threshold_of m s) rs ms 0 (length ms / 2) in
       either (λ (c : Clipped). All Both (links (taken c.answer ms c.matches))) (ltb (length ks / 2) (length ms / 2) && leb 4 (length ks / 2))
-      (record { answer = Kept (length ks / 2); matches = ks ++ drop (length ks) ms }) (record { answer = Unchanged; matches = ms })
+      (record { answer = Some (length ks / 2); matches = ks ++ drop (length ks) ms }) (record { answer = None; matches = ms })
       (let e = even (threshold_of m s) rs ms 0 (length ms / 2) in
       subst (λ (l : List ℕ). All Both (links l)) (sym (take_at ks (drop (length ks) ms) (length ks / 2 + length ks / 2) (omega (arith, e.1))))
       (kept_from_all (threshold_of m s) rs ms h 0 (length ms / 2) (omega arith)))
       h
 
-  pub clipped_all : (rs : List Float) (t : Statistics) (ms : List ℕ) → All Both (links ms) → All Both (links (clipped rs t ms))
+  pub clipped_all : (rs : List Float) (t : Option MedianSigma) (ms : List ℕ) → All Both (links ms) → All Both (links (clipped rs t ms))
   unfolding clipped
-  clipped_all rs none ms h = h
-  clipped_all rs (some t) ms h = clip_all rs ms t.median t.sigma h
+  clipped_all rs None ms h = h
+  clipped_all rs (Some t) ms h = clip_all rs ms t.median t.sigma h
 
   -- the directions that a query's predictions name, and those that it leaves cached
   module _ (k : Fixed) (directions : List Float) (rows : List (List Float)) where

@@ -1,5 +1,9 @@
 -- A round's parts: the matcher's radius, the clip in the working lists, the lengths that stay, and what a verdict ends. Assumes nothing.
-use Rattle.std.proofs.Common.{◌≡◌, ℕ, ◌+◌, ◌-◌, ◌*◌, ◌/◌, ◌≤◌, Bool, true, false, cond, List, [], ◌++◌, length, take, drop, sym, ap, ◌∙◌, subst, arith, take-append-drop, length-take-le}
+use Rattle.stats.specs.declared.MedianSigma.{MedianSigma}
+use Rattle.std.specs.Prelude.{Option, Some, None, Result, Ok, Err}
+use Rattle.refusal.specs.declared.Refusal.TheVariants.{Unsound as OutOfBounds}
+use Rattle.passes.specs.declared.Unsound.{Unsound}
+use Rattle.std.proofs.Common.{◌≡◌, ℕ, ◌+◌, ◌-◌, ◌*◌, ◌/◌, ◌≤◌, List, ◌++◌, length, take, drop, sym, ap, ◌∙◌, subst, arith, take-append-drop, length-take-le}
 use lib.Seq.{slice, take-append-le, take-append-add, drop-append-add}
 use lib.Ieee.{Float}
 use Rattle.rounding.specs.Arith.{◌⊗◌, ◌⊘◌, f64}
@@ -11,52 +15,34 @@ use Rattle.entry.specs.declared.Settings.{Settings}
 use Rattle.entry.specs.Fixed.{radius_px}
 use Rattle.entry.specs.Entry.{fixed_of}
 use Rattle.passes.specs.Fit.{fit_passes}
-use Rattle.wcs_refine.specs.Clip.{Statistics, statistics, clipped}
+use Rattle.wcs_refine.specs.Clip.{statistics, clipped}
 use Rattle.wcs_refine.specs.Associate.{adaptive_px}
-use Rattle.wcs_refine.specs.Round.{refuse, Found, Round, searched, rest, fitted, round}
-use Rattle.passes.specs.Fit.{passes_of}
-use Rattle.wcs_refine.specs.Cleaning.{stats_of, Statted, ClippedTo}
+use Rattle.wcs_refine.specs.Round.{Found, Round, searched, rest, fitted, round}
+use Rattle.passes.specs.Fit.{passes_at, passes_of}
+use Rattle.wcs_refine.specs.Cleaning.{Statted, ClippedTo}
 use Rattle.wcs_refine.specs.Keeping.{cache_of, held_cache, held_matches, held_state, with_used, Fits, next_of, SearchedTo, RoundTo}
-use Rattle.wcs_refine.specs.Stepping.{posed, stopped, refusal_of, residuals_at, TrimmedTo, rest_of, RestTo}
+use Rattle.wcs_refine.specs.Stepping.{posed, residuals_at, TrimmedTo, rest_of, RestTo}
 use Rattle.query.specs.declared.Held.{Held}
-use Rattle.wcs_refine.specs.declared.keeping.Verdict.{Verdict}
-use Rattle.wcs_refine.specs.declared.keeping.Verdict.TheVariants.{GoOn, Done, Refused}
+use Rattle.wcs_refine.specs.declared.keeping.Verdict.TheVariants.{Refused}
 use Rattle.passes.specs.declared.Passed.{Passed}
-use Rattle.wcs_refine.specs.declared.clipping.Stats.{Stats}
-use Rattle.wcs_refine.specs.declared.clipping.Stats.TheVariants.{Of, Missing}
 use Rattle.wcs_refine.specs.declared.searching.Sought.{Sought}
 use Rattle.wcs_refine.specs.declared.rounds.Trimmed.{Trimmed}
 use Rattle.wcs_refine.proofs.CleanSteps.{written_front, counted_front, residual_count}
 
 -- ---- the matcher's radius
 
-module _ (k : Settings) {s : Stats} {most : Float} (e : most ≡ radius_px (fixed_of k)) where
-  pub radius_missing : s ≡ Missing → most ≡ adaptive_px (fixed_of k) (stats_of s)
-  unfolding adaptive_px stats_of
-  radius_missing f = e ∙ ap (λ (x : Stats). adaptive_px (fixed_of k) (stats_of x)) (sym f)
+module _ (k : Settings) {s : Option MedianSigma} {most : Float} (e : most ≡ radius_px (fixed_of k)) where
+  pub radius_missing : s ≡ None → most ≡ adaptive_px (fixed_of k) s
+  unfolding adaptive_px
+  radius_missing f = e ∙ ap (λ (x : Option MedianSigma). adaptive_px (fixed_of k) x) (sym f)
 
-  pub radius_of : {median sigma wide r : Float} → s ≡ Of median sigma → wide ≡ max_f (f64 0x4014000000000000 ⊗ sigma ⊘ k.scale) (f64 0x4004000000000000)
-      → r ≡ min_f wide most → r ≡ adaptive_px (fixed_of k) (stats_of s)
-  unfolding adaptive_px stats_of
+  pub radius_of : {m : MedianSigma} {wide r : Float} → s ≡ Some m → wide ≡ max_f (f64 0x4014000000000000 ⊗ m.sigma ⊘ k.scale) (f64 0x4004000000000000)
+      → r ≡ min_f wide most → r ≡ adaptive_px (fixed_of k) s
+  unfolding adaptive_px
   radius_of {wide = wide} f g h =
       h ∙ ap (λ (x : Float). min_f x most) g
       ∙ ap (min_f (max_f (f64 0x4014000000000000 ⊗ _ ⊘ k.scale) (f64 0x4004000000000000))) e
-      ∙ ap (λ (x : Stats). adaptive_px (fixed_of k) (stats_of x)) (sym f)
-
--- ---- verdicts
-
-module _ {v : Verdict} where
-  pub goes_on : v ≡ GoOn → (false ≡ stopped v) × (0 ≡ refusal_of v)
-  unfolding stopped refusal_of
-  goes_on f = (ap stopped (sym f), ap refusal_of (sym f))
-
-  pub is_done : v ≡ Done → (true ≡ stopped v) × (0 ≡ refusal_of v)
-  unfolding stopped refusal_of
-  is_done f = (ap stopped (sym f), ap refusal_of (sym f))
-
-  pub is_refused : {x : ℕ} → v ≡ Refused x → (true ≡ stopped v) × (x ≡ refusal_of v)
-  unfolding stopped refusal_of
-  is_refused f = (ap stopped (sym f), ap refusal_of (sym f))
+      ∙ ap (λ (x : Option MedianSigma). adaptive_px (fixed_of k) x) (sym f)
 
 -- ---- the clip: n matches ms, their residuals at the front of a list of floats
 
@@ -72,15 +58,15 @@ module _ (k : Settings) (ss ds : List Float) (p : Pose) (ms : List ℕ) (before 
       let w : length ms / 2 ≤ length before = omega arith in
       counted_front (residuals_at k ss ds p ms) before mid (length ms / 2) (residual_count k.cut ss ds p ms) w d
 
-  pub trimmed : (after : List Float) (n j : ℕ) (out : List ℕ) (s : Stats) {used : ℕ} {radius : Float} → n ≡ length ms / 2 → j ≡ length ms / 2 → Statted mid after n s
-      → ClippedTo (take j after) s ms out used → radius ≡ adaptive_px (fixed_of k) (stats_of s)
+  pub trimmed : (after : List Float) (n j : ℕ) (out : List ℕ) (s : Option MedianSigma) {used : ℕ} {radius : Float} → n ≡ length ms / 2 → j ≡ length ms / 2 → Statted mid after n s
+      → ClippedTo (take j after) s ms out used → radius ≡ adaptive_px (fixed_of k) s
       → TrimmedTo k ss ds p ms out (record { used = used; radius = radius })
   trimmed after n j out s {used} {radius} en ej t c g =
       let front : take j after ≡ residuals_at k ss ds p ms = ap (λ (x : ℕ). take x after) (ej ∙ sym en) ∙ t.front ∙ ap (λ (x : ℕ). take x mid) en ∙ residuals_front in
-      let stats : stats_of s ≡ statistics (residuals_at k ss ds p ms) = t.result ∙ ap (λ (x : ℕ). statistics (take x mid)) en ∙ ap statistics residuals_front in
+      let stats : s ≡ statistics (residuals_at k ss ds p ms) = t.result ∙ ap (λ (x : ℕ). statistics (take x mid)) en ∙ ap statistics residuals_front in
       record {
         fewer = c.fewer;
-        front = c.front ∙ ap (λ (l : List Float). clipped l (stats_of s) ms) front ∙ ap (λ (x : Statistics). clipped (residuals_at k ss ds p ms) x ms) stats;
+        front = c.front ∙ ap (λ (l : List Float). clipped l s ms) front ∙ ap (λ (x : Option MedianSigma). clipped (residuals_at k ss ds p ms) x ms) stats;
         radius = g ∙ ap (adaptive_px (fixed_of k)) stats;
       }
 
@@ -142,42 +128,41 @@ module _ (k : Settings) (n : ℕ) (ss ds : List Float) (h : Held) (l : List ℕ)
         fits = g.fits;
       }
 
--- ---- one round: the passes over the first m numbers of l, the matches of h
+-- ---- one round: the passes over the matches of h
 
-module _ (k : Settings) (n : ℕ) (ss ds : List Float) (h : Held) (l : List ℕ) (m : ℕ) (f : Passed) (fits : Fits k n h) (is : m ≡ 2 * h.used)
-    (e : passes_of f ≡ fit_passes 10 k.cut (rows ss ds (take m l)) h.pose) where
+module _ (k : Settings) (n : ℕ) (ss ds : List Float) (h : Held) (l : List ℕ) (f : Passed) (fits : Fits k n h)
+    (e : passes_of f ≡ fit_passes 10 k.cut (rows ss ds (held_matches h l)) h.pose) where
   round_passed : fitted (fixed_of k) ss ds (held_state n h l) (rows ss ds (held_matches h l)) (passes_of f) ≡ round (fixed_of k) ss ds (held_state n h l)
   unfolding round
   round_passed =
-      ap (fitted (fixed_of k) ss ds (held_state n h l) (rows ss ds (held_matches h l)))
-      (e ∙ ap (λ (x : ℕ). fit_passes 10 k.cut (rows ss ds (take x l)) h.pose) is)
+      ap (fitted (fixed_of k) ss ds (held_state n h l) (rows ss ds (held_matches h l))) e
 
-  -- what a round comes to whose passes are refused
-  abbrev unfit : Found
-  unfit = record { next = refuse 12; queries = []; comparisons = 0 }
+  -- how the passes ended
+  round_ended : {x : Result Pose Unsound} → f.end ≡ x
+      → fitted (fixed_of k) ss ds (held_state n h l) (rows ss ds (held_matches h l)) (passes_at f.passes x) ≡ round (fixed_of k) ss ds (held_state n h l)
+  round_ended b =
+      ap (λ (y : Result Pose Unsound). fitted (fixed_of k) ss ds (held_state n h l) (rows ss ds (held_matches h l)) (passes_at f.passes y)) (sym b) ∙ round_passed
 
-  pub round_unsound : f.fine ≡ false → RoundTo k n ss ds h l l (record { held = h; verdict = Refused 12; passes = f.passes; queries = 0; comparisons = 0 })
+  pub round_unsound : {u : Unsound} → f.end ≡ Err u
+      → RoundTo k n ss ds h l l (record { held = h; verdict = Refused OutOfBounds; passes = f.passes; queries = 0; comparisons = 0 })
   unfolding fitted next_of
-  round_unsound b =
-      let r = rest (fixed_of k) ss ds f.pose (held_matches h l) (held_cache n h l) (residuals_at k ss ds f.pose (held_matches h l)) in
-      record {
-        next = ap (λ (x : Bool). (cond x r unfit).next) (sym b) ∙ ap (λ (x : Round). x.found.next) round_passed;
-        count = ap (λ (x : Bool). length (cond x r unfit).queries) (sym b) ∙ ap (λ (x : Round). length x.found.queries) round_passed;
-        comparisons = ap (λ (x : Bool). (cond x r unfit).comparisons) (sym b) ∙ ap (λ (x : Round). x.found.comparisons) round_passed;
-        passes = ap (λ (x : Round). x.passes) round_passed;
-        fits = fits;
-      }
+  round_unsound b = record {
+    next = ap (λ (x : Round). x.found.next) (round_ended b);
+    count = ap (λ (x : Round). length x.found.queries) (round_ended b);
+    comparisons = ap (λ (x : Round). x.found.comparisons) (round_ended b);
+    passes = ap (λ (x : Round). x.passes) (round_ended b);
+    fits = fits;
+  }
 
-  pub round_sound : (after : List ℕ) (s : Sought) {h' : Held} → f.fine ≡ true → h' ≡ posed h f.pose → RestTo k n ss ds h' l after s
+  pub round_sound : {p : Pose} (after : List ℕ) (s : Sought) {h' : Held} → f.end ≡ Ok p → h' ≡ posed h p → RestTo k n ss ds h' l after s
       → RoundTo k n ss ds h l after (record { held = s.held; verdict = s.verdict; passes = f.passes; queries = s.queries; comparisons = s.comparisons })
   unfolding fitted
-  round_sound after s b g c =
-      let d : RestTo k n ss ds (posed h f.pose) l after s = subst (λ (x : Held). RestTo k n ss ds x l after s) g c in
-      let r = rest_of k n ss ds (posed h f.pose) l in
+  round_sound {p} after s b g c =
+      let d : RestTo k n ss ds (posed h p) l after s = subst (λ (x : Held). RestTo k n ss ds x l after s) g c in
       record {
-        next = d.next ∙ ap (λ (x : Bool). (cond x r unfit).next) (sym b) ∙ ap (λ (x : Round). x.found.next) round_passed;
-        count = d.count ∙ ap (λ (x : Bool). length (cond x r unfit).queries) (sym b) ∙ ap (λ (x : Round). length x.found.queries) round_passed;
-        comparisons = d.comparisons ∙ ap (λ (x : Bool). (cond x r unfit).comparisons) (sym b) ∙ ap (λ (x : Round). x.found.comparisons) round_passed;
-        passes = ap (λ (x : Round). x.passes) round_passed;
+        next = d.next ∙ ap (λ (x : Round). x.found.next) (round_ended b);
+        count = d.count ∙ ap (λ (x : Round). length x.found.queries) (round_ended b);
+        comparisons = d.comparisons ∙ ap (λ (x : Round). x.found.comparisons) (round_ended b);
+        passes = ap (λ (x : Round). x.passes) (round_ended b);
         fits = d.fits;
       }

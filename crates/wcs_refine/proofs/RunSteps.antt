@@ -1,10 +1,6 @@
 -- The rounds one by one: what is left of them, with the counts so far, gives the whole; and what a round at most counts. Assumes nothing.
-use Rattle.std.proofs.Common.{◌≡◌, ℕ, zero, suc, ◌+◌, ◌-◌, ◌/◌, ◌<◌, ◌≤◌, max, Bool, true, false, not, ◌&&◌, ltb, leb, List, [], ◌++◌, length, sym, refl, ap, ◌∙◌, subst, true≢false, arith, length-append}
+use Rattle.std.proofs.Common.{◌≡◌, ℕ, zero, suc, ◌+◌, ◌-◌, ◌<◌, ◌≤◌, max, Bool, true, false, ltb, List, [], ◌++◌, length, sym, refl, ap, ◌∙◌, arith, length-append}
 use lib.Ieee.{Float}
-use Rattle.rounding.specs.Arith.{◌⊗◌}
-use Rattle.pairs.specs.Pairs.{pairs}
-use Rattle.matching.specs.Greedy.{matches_of}
-use Rattle.project.specs.Camera.{boresight, camera_rows}
 use Rattle.fit.specs.Normal.{ls_fit_once}
 use Rattle.fit.specs.Rows.{Row, rows, view_of}
 use Rattle.residuals.specs.Residual.{residuals}
@@ -16,12 +12,13 @@ use Rattle.entry.specs.Fixed.{Fixed}
 use Rattle.entry.specs.Entry.{fixed_of}
 use Rattle.passes.specs.Fit.{moved, sound, still, Passes, goes_on, passed, fit_passes}
 use Rattle.wcs_refine.specs.Clip.{statistics, clipped}
-use Rattle.query.specs.Query.{query, Cache, empty, full, drifted, Prediction, predictions, pruned}
-use Rattle.panel.specs.Points.{points_of}
-use Rattle.wcs_refine.specs.Associate.{adaptive_px, laid, renamed, same_matches}
-use Rattle.wcs_refine.specs.Round.{State, Next, go, done, refuse, Found, Round, settled, associated, fresh, reused, searched, rest, fitted, round, Ending, refused, ended, Run, carry, loop}
+use Rattle.query.specs.Query.{query, Cache, empty, full, drifted}
+use Rattle.wcs_refine.specs.Associate.{adaptive_px}
+use Rattle.wcs_refine.specs.Round.{State, Next, refuse, Found, Round, fresh, reused, searched, rest, fitted, round, Ending, ended, Run, carry, loop}
 use Rattle.wcs_refine.specs.Keeping.{held_state, Fits, next_of, RoundTo, ending_of, RanTo}
-use Rattle.wcs_refine.specs.Stepping.{stopped, refusal_of}
+use Rattle.wcs_refine.specs.Stepping.{ending}
+use Rattle.std.specs.Prelude.{Option, Some, None}
+use Rattle.refusal.specs.declared.Refusal.{Refusal}
 use Rattle.query.specs.declared.Held.{Held}
 use Rattle.wcs_refine.specs.declared.keeping.Verdict.{Verdict}
 use Rattle.wcs_refine.specs.declared.keeping.Verdict.TheVariants.{GoOn, Done, Refused}
@@ -50,38 +47,20 @@ few_passes (suc n) cut rs p =
     (passed p (ls_fit_once (view_of p cut) rs) (λ q. fit_passes n cut rs q)) (omega arith)
     (solved_more n p (ls_fit_once (view_of p cut) rs) (λ q. fit_passes n cut rs q) (λ q. few_passes n cut rs q))
 
--- ---- a refusal has a number, and a round makes at most one query
-
-abbrev Lawful : Next → Type 0
-Lawful (go s) = Unit {0}
-Lawful (done s) = Unit {0}
-Lawful (refuse x) = 1 ≤ x
+-- ---- a round makes at most one query
 
 abbrev Fair : Found → Type 0
-Fair f = Lawful f.next × (length f.queries ≤ 1)
-
-settled_lawful : (p : Pose) (ms : List ℕ) (c : Cache) (new : List ℕ) → Lawful (settled p ms c new)
-unfolding settled
-settled_lawful p ms c new =
-    either Lawful (leb 4 (length new / 2) && not (same_matches new ms)) (go (record { pose = p; matches = new; cache = c })) (done (record { pose = p; matches = ms; cache = c })) tt tt
-
-associated_lawful : (k : Fixed) (ss : List Float) (p : Pose) (ms : List ℕ) (c : Cache) (r : Float) (qs : List Prediction) → Lawful (associated k ss p ms c r qs)
-unfolding associated
-associated_lawful k ss p ms c r qs =
-    let new = renamed qs (matches_of ss k.limit (laid qs) (r ⊗ r)) in
-    either Lawful (ltb k.capacity (length (pairs ss k.limit (laid qs) (r ⊗ r)))) (refuse 13) (settled p ms c new) (omega arith) (settled_lawful p ms c new)
+Fair f = length f.queries ≤ 1
 
 module _ (k : Fixed) (ss ds : List Float) (p : Pose) (ms : List ℕ) (r : Float) where
   fresh_fair : (l : List ℕ) → Fair (fresh k ss ds p ms r l)
   unfolding fresh
-  fresh_fair l =
-      let rows = camera_rows p.theta p.ra p.dec in
-      (associated_lawful k (points_of ss k.limit) p ms (full (boresight p.ra p.dec) p.theta (pruned k ds rows l)) r (predictions k ds rows l), omega arith)
+  fresh_fair l = omega arith
 
   reused_fair : (b : List Float) (theta : Float) (l : List ℕ) (t : Bool) → Fair (reused k ss ds p ms r b theta l t)
   unfolding reused
   reused_fair b theta l true = fresh_fair (query k ds p)
-  reused_fair b theta l false = (associated_lawful k (points_of ss k.limit) p ms (full b theta l) r (predictions k ds (camera_rows p.theta p.ra p.dec) l), omega arith)
+  reused_fair b theta l false = omega arith
 
   searched_fair : (c : Cache) → Fair (searched k ss ds p ms r c)
   unfolding searched
@@ -97,7 +76,7 @@ unfolding fitted
 fitted_fair k ss ds s rs f =
     let es = residuals (view_of f.pose k.cut) rs in
     either Fair f.fine (rest k ss ds f.pose s.matches s.cache es) (record { next = refuse 12; queries = []; comparisons = 0 })
-    (rest_fair k ss ds f.pose s.matches s.cache es) (omega arith, omega arith)
+    (rest_fair k ss ds f.pose s.matches s.cache es) (omega arith)
 
 round_fair : (k : Fixed) (ss ds : List Float) (s : State) → Fair (round k ss ds s).found
 unfolding round
@@ -137,8 +116,8 @@ same_counts f x y z = cc
 
 -- a round of x passes, the queries qs and y comparisons
 module _ (i p q m x y : ℕ) (qs : List (List ℕ)) (s : State) (f : State → Run) where
-  carry_on : (v : Verdict) → stopped v ≡ false → later (i + 1) (p + x) (q + length qs) (max m y) (f s) ≡ later i p q m (carry x qs y (next_of v s) f)
-  unfolding stopped next_of carry
+  carry_on : (v : Verdict) → ending v ≡ None → later (i + 1) (p + x) (q + length qs) (max m y) (f s) ≡ later i p q m (carry x qs y (next_of v s) f)
+  unfolding ending next_of carry
   carry_on GoOn h =
       let r = f s in
       let a : i + 1 + r.rounds ≡ i + suc r.rounds = omega arith in
@@ -146,20 +125,19 @@ module _ (i p q m x y : ℕ) (qs : List (List ℕ)) (s : State) (f : State → R
       let c : q + length qs + length r.queries ≡ q + length (qs ++ r.queries) = omega (arith, length-append qs r.queries) in
       let d : max (max m y) r.comparisons ≡ max m (max y r.comparisons) = omega arith in
       ends_same r.ending a b c d
-  carry_on Done h = absurd (true≢false h)
-  carry_on (Refused z) h = absurd (true≢false h)
+  carry_on Done h = let z : ◌≡◌ {A = ℕ} 0 1 = cc in absurd (omega arith)
+  carry_on (Refused r) h = let z : ◌≡◌ {A = ℕ} 0 1 = cc in absurd (omega arith)
 
-  refusal_ends : (z : ℕ) → 1 ≤ z → ending_of z s ≡ refused z
-  unfolding ending_of
-  refusal_ends zero h = let none : ⊥ = omega arith in absurd none
-  refusal_ends (suc z) h = refl
-
-  carry_ends : (v : Verdict) → stopped v ≡ true → Lawful (next_of v s)
-      → ends (ending_of (refusal_of v) s) (i + 1) (p + x) (q + length qs) (max m y) ≡ later i p q m (carry x qs y (next_of v s) f)
-  unfolding stopped next_of carry refusal_of ending_of
-  carry_ends GoOn h w = absurd (true≢false (sym h))
-  carry_ends Done h w = refl
-  carry_ends (Refused z) h w = ap (λ (e : Ending). ends e (i + 1) (p + x) (q + length qs) (max m y)) (refusal_ends z w)
+  carry_ends : (v : Verdict) (r : Option Refusal) → ending v ≡ Some r
+      → ends (ending_of r s) (i + 1) (p + x) (q + length qs) (max m y) ≡ later i p q m (carry x qs y (next_of v s) f)
+  unfolding ending next_of carry ending_of
+  carry_ends GoOn r h = let z : ◌≡◌ {A = ℕ} 0 1 = cc in absurd (omega arith)
+  carry_ends Done r h =
+      let e : None ≡ r = cc in
+      ap (λ (y' : Option Refusal). ends (ending_of y' s) (i + 1) (p + x) (q + length qs) (max m y)) (sym e)
+  carry_ends (Refused z) r h =
+      let e : Some z ≡ r = cc in
+      ap (λ (y' : Option Refusal). ends (ending_of y' s) (i + 1) (p + x) (q + length qs) (max m y)) (sym e)
 
 loop_next : (k : Fixed) (ss ds : List Float) (n : ℕ) (s : State)
     → (let r = round k ss ds s in loop k ss ds (suc n) s ≡ carry r.passes r.found.queries r.found.comparisons r.found.next (λ t. loop k ss ds n t))
@@ -173,10 +151,7 @@ module _ (k : Settings) (n : ℕ) (ss ds : List Float) (h : Held) (l after : Lis
   turn_passes = omega (arith, d.passes, round_passes (fixed_of k) ss ds (held_state n h l))
 
   pub turn_queries : s.queries ≤ 1
-  turn_queries = omega (arith, d.count, (round_fair (fixed_of k) ss ds (held_state n h l)).1)
-
-  turn_lawful : Lawful (next_of s.verdict (held_state n s.held after))
-  turn_lawful = subst Lawful (sym d.next) (round_fair (fixed_of k) ss ds (held_state n h l)).0
+  turn_queries = omega (arith, d.count, round_fair (fixed_of k) ss ds (held_state n h l))
 
   module _ (most i p q m : ℕ) (less : i < most) {whole : Sums}
       (left : later i p q m (loop (fixed_of k) ss ds (most - i) (held_state n h l)) ≡ whole) where
@@ -197,19 +172,18 @@ module _ (k : Settings) (n : ℕ) (ss ds : List Float) (h : Held) (l after : Lis
         ∙ ap (later i p q m) (sym (loop_next (fixed_of k) ss ds (most - (i + 1)) (held_state n h l)))
         ∙ sym (ap (λ (x : ℕ). later i p q m (loop (fixed_of k) ss ds x (held_state n h l))) e) ∙ left
 
-    -- t, y and o: whether the rounds end here, with what refusal, and the most comparisons by then
-    pub turn_on : {t : Bool} {o : ℕ} → t ≡ stopped s.verdict → t ≡ false → o ≡ max m s.comparisons
+    -- o: the most comparisons by then
+    pub turn_on : {t : Option (Option Refusal)} {o : ℕ} → t ≡ ending s.verdict → t ≡ None → o ≡ max m s.comparisons
         → later (i + 1) (p + s.passes) (q + s.queries) o (onward next) ≡ whole
     turn_on f g e =
         same_counts (λ a b c. later (i + 1) (p + a) (q + b) c (onward next)) d.passes d.count (e ∙ ap (max m) d.comparisons)
         ∙ carry_on i p q m this.passes this.found.comparisons this.found.queries next onward s.verdict (sym f ∙ g) ∙ turn
 
-    pub turn_ends : {t : Bool} {y o : ℕ} → t ≡ stopped s.verdict → t ≡ true → y ≡ refusal_of s.verdict → o ≡ max m s.comparisons
+    pub turn_ends : {t : Option (Option Refusal)} {y : Option Refusal} {o : ℕ} → t ≡ ending s.verdict → t ≡ Some y → o ≡ max m s.comparisons
         → ends (ending_of y next) (i + 1) (p + s.passes) (q + s.queries) o ≡ whole
-    turn_ends {o = o} f g y e =
-        ap (λ (x : ℕ). ends (ending_of x next) (i + 1) (p + s.passes) (q + s.queries) o) y
-        ∙ same_counts (λ a b c. ends (ending_of (refusal_of s.verdict) next) (i + 1) (p + a) (q + b) c) d.passes d.count (e ∙ ap (max m) d.comparisons)
-        ∙ carry_ends i p q m this.passes this.found.comparisons this.found.queries next onward s.verdict (sym f ∙ g) turn_lawful ∙ turn
+    turn_ends {y = y} f g e =
+        same_counts (λ a b c. ends (ending_of y next) (i + 1) (p + a) (q + b) c) d.passes d.count (e ∙ ap (max m) d.comparisons)
+        ∙ carry_ends i p q m this.passes this.found.comparisons this.found.queries next onward s.verdict y (sym f ∙ g) ∙ turn
 
 -- ---- before the first round, after the last, and the answer
 
@@ -217,11 +191,11 @@ abbrev pub totals : Run → Sums
 totals r = ends r.ending r.rounds r.passes (length r.queries) r.comparisons
 
 module _ (k : Fixed) (ss ds : List Float) (most : ℕ) (s : State) where
-  pub rounds_end : (i p q m : ℕ) {whole : Sums} → most ≤ i → later i p q m (loop k ss ds (most - i) s) ≡ whole → ends (ending_of 0 s) i p q m ≡ whole
+  pub rounds_end : (i p q m : ℕ) {whole : Sums} → i ≤ most → most ≤ i → later i p q m (loop k ss ds (most - i) s) ≡ whole → ends (ending_of None s) most p q m ≡ whole
   unfolding loop ending_of
-  rounds_end i p q m h left =
+  rounds_end i p q m low h left =
       let e : most - i ≡ 0 = omega arith in
-      let a : i ≡ i + 0 = omega arith in
+      let a : most ≡ i + 0 = omega arith in
       let b : p ≡ p + 0 = omega arith in
       let c : q ≡ q + 0 = omega arith in
       let d : m ≡ max m 0 = omega arith in

@@ -1,4 +1,6 @@
 -- Two calls that share what the loop's last matches name have the same closing: the clips with their refits, and the report. Assumes nothing.
+use Rattle.stats.specs.declared.MedianSigma.{MedianSigma}
+use Rattle.std.specs.Prelude.{Option, Some, None}
 use Rattle.std.proofs.Common.{◌≡◌, ℕ, zero, suc, ◌/◌, Bool, true, false, cond, ltb, List, length, refl, ap, ◌∙◌}
 use lib.Ieee.{Float}
 use Rattle.fit.specs.Rows.{Row, rows, view_of}
@@ -7,11 +9,9 @@ use Rattle.residuals.specs.Residual.{residuals, mad_clip_matches}
 use Rattle.fit.specs.declared.Pose.{Pose}
 use Rattle.solve.specs.declared.Solution.{Solution}
 use Rattle.solve.specs.declared.Solution.TheVariants.{Solved, Failed}
-use Rattle.residuals.specs.declared.Clip.{Clip}
-use Rattle.residuals.specs.declared.Clip.TheVariants.{Kept, Unchanged}
 use Rattle.entry.specs.Fixed.{Fixed}
 use Rattle.passes.specs.Fit.{moved, sound}
-use Rattle.wcs_refine.specs.Clip.{Statistics, none, some, statistics, taken}
+use Rattle.wcs_refine.specs.Clip.{statistics, taken}
 use Rattle.wcs_refine.specs.Closing.{Closed, unsound, fine, if_sound, refitted, recleaned, cleaned_by, cleaned}
 use Rattle.wcs_refine.proofs.Along.{either}
 use Rattle.wcs_refine.proofs.Remaining.{clip_all}
@@ -33,20 +33,20 @@ module _ (sa sb da db : List Float) where
         go false q = refl
         go true q = e q
 
-    recleaned_same : (p : Pose) (ms : List ℕ) (c : Clip) (new : List ℕ) (f g : Pose → List ℕ → Closed) → Shared sa sb da db (taken c ms new) → ((q : Pose) (l : List ℕ) → Shared sa sb da db l → f q l ≡ g q l)
+    recleaned_same : (p : Pose) (ms : List ℕ) (c : Option ℕ) (new : List ℕ) (f g : Pose → List ℕ → Closed) → Shared sa sb da db (taken c ms new) → ((q : Pose) (l : List ℕ) → Shared sa sb da db l → f q l ≡ g q l)
         → recleaned k sa da p ms c new f ≡ recleaned k sb db p ms c new g
     unfolding recleaned
-    recleaned_same p ms Unchanged new f g h e = refl
-    recleaned_same p ms (Kept n) new f g h e =
-        let l = taken (Kept n) ms new in
+    recleaned_same p ms None new f g h e = refl
+    recleaned_same p ms (Some n) new f g h e =
+        let l = taken (Some n) ms new in
         refitted_same p (ls_fit_once (view_of p k.cut) (rows sa da l)) (λ q. f q l) (λ q. g q l) (λ q. e q l h)
         ∙ ap (λ (rs : List Row). refitted p (ls_fit_once (view_of p k.cut) rs) (λ q. g q l)) (rows_same sa sb da db l h)
 
-    cleaned_by_same : (p : Pose) (ms : List ℕ) (rs : List Float) (t : Statistics) (f g : Pose → List ℕ → Closed) → Shared sa sb da db ms → ((q : Pose) (l : List ℕ) → Shared sa sb da db l → f q l ≡ g q l)
+    cleaned_by_same : (p : Pose) (ms : List ℕ) (rs : List Float) (t : Option MedianSigma) (f g : Pose → List ℕ → Closed) → Shared sa sb da db ms → ((q : Pose) (l : List ℕ) → Shared sa sb da db l → f q l ≡ g q l)
         → cleaned_by k sa da p ms rs t f ≡ cleaned_by k sb db p ms rs t g
     unfolding cleaned_by
-    cleaned_by_same p ms rs none f g h e = refl
-    cleaned_by_same p ms rs (some t) f g h e =
+    cleaned_by_same p ms rs None f g h e = refl
+    cleaned_by_same p ms rs (Some t) f g h e =
         let c = mad_clip_matches rs ms t.median t.sigma in
         recleaned_same p ms c.answer c.matches f g (clip_all (SameSpot sa sb) (SameDirection da db) rs ms t.median t.sigma h) e
 
@@ -70,17 +70,17 @@ module _ (sa sb da db : List Float) where
         go false q = tt
         go true q = e q
 
-    recleaned_shared : (p : Pose) (ms : List ℕ) (c : Clip) (new : List ℕ) (f : Pose → List ℕ → Closed) → Shared sa sb da db ms → Shared sa sb da db (taken c ms new) → ((q : Pose) (l : List ℕ) → Shared sa sb da db l → ClosedShared (f q l))
+    recleaned_shared : (p : Pose) (ms : List ℕ) (c : Option ℕ) (new : List ℕ) (f : Pose → List ℕ → Closed) → Shared sa sb da db ms → Shared sa sb da db (taken c ms new) → ((q : Pose) (l : List ℕ) → Shared sa sb da db l → ClosedShared (f q l))
         → ClosedShared (recleaned k sa da p ms c new f)
     unfolding recleaned
-    recleaned_shared p ms Unchanged new f h i e = h
-    recleaned_shared p ms (Kept n) new f h i e = let l = taken (Kept n) ms new in refitted_shared p (ls_fit_once (view_of p k.cut) (rows sa da l)) (λ q. f q l) (λ q. e q l i)
+    recleaned_shared p ms None new f h i e = h
+    recleaned_shared p ms (Some n) new f h i e = let l = taken (Some n) ms new in refitted_shared p (ls_fit_once (view_of p k.cut) (rows sa da l)) (λ q. f q l) (λ q. e q l i)
 
-    cleaned_by_shared : (p : Pose) (ms : List ℕ) (rs : List Float) (t : Statistics) (f : Pose → List ℕ → Closed) → Shared sa sb da db ms → ((q : Pose) (l : List ℕ) → Shared sa sb da db l → ClosedShared (f q l))
+    cleaned_by_shared : (p : Pose) (ms : List ℕ) (rs : List Float) (t : Option MedianSigma) (f : Pose → List ℕ → Closed) → Shared sa sb da db ms → ((q : Pose) (l : List ℕ) → Shared sa sb da db l → ClosedShared (f q l))
         → ClosedShared (cleaned_by k sa da p ms rs t f)
     unfolding cleaned_by
-    cleaned_by_shared p ms rs none f h e = h
-    cleaned_by_shared p ms rs (some t) f h e =
+    cleaned_by_shared p ms rs None f h e = h
+    cleaned_by_shared p ms rs (Some t) f h e =
         let c = mad_clip_matches rs ms t.median t.sigma in
         recleaned_shared p ms c.answer c.matches f h (clip_all (SameSpot sa sb) (SameDirection da db) rs ms t.median t.sigma h) e
 

@@ -1,10 +1,10 @@
 -- The second half of Phase D: the matcher on the predictions, and whether its matches are new. Definitions only. Assumes nothing.
-use Rattle.std.specs.Prelude.{ℕ, zero, suc, Bool, true, false, cond, ◌&&◌, ◌||◌, List, [], ◌∷◌, ◌==◌, nat_le, nat_lt, Float}
+use Rattle.std.specs.Prelude.{ℕ, zero, suc, Bool, true, false, cond, ◌&&◌, ◌||◌, List, [], ◌∷◌, ◌==◌, nat_le, nat_lt, Float, Option, Some, None}
 use Rattle.rounding.specs.Arith.{◌⊗◌, ◌⊘◌, f64}
 use Rattle.rounding.specs.Methods.{max_f, min_f}
 use Rattle.matching.specs.Greedy.{Match}
 use Rattle.entry.specs.Fixed.{Fixed, radius_px}
-use Rattle.wcs_refine.specs.Clip.{Statistics, none, some}
+use Rattle.stats.specs.declared.MedianSigma.{MedianSigma}
 use Rattle.query.specs.Query.{Prediction}
 
 -- 5.0, how many standard deviations the matcher's radius is, and 2.5, the pixels that it is at least
@@ -15,10 +15,10 @@ abbrev pub least_radius_px : Float
 least_radius_px = f64 0x4004000000000000
 
 -- adaptive_radius_px: (5.0 * sigma_est / ps).max(2.5).min(radius_px), or radius_px without statistics
-unfoldable pub adaptive_px : Fixed → Statistics → Float
+unfoldable pub adaptive_px : Fixed → Option MedianSigma → Float
 unfolding max_f min_f radius_px
-adaptive_px k none = radius_px k
-adaptive_px k (some t) = min_f (max_f (radius_sigmas ⊗ t.sigma ⊘ k.scale) least_radius_px) (radius_px k)
+adaptive_px k None = radius_px k
+adaptive_px k (Some t) = min_f (max_f (radius_sigmas ⊗ t.sigma ⊘ k.scale) least_radius_px) (radius_px k)
 
 -- `predicted` as `greedy_unique_matches` reads it: x then y of each.
 unfoldable pub laid : List Prediction → List Float

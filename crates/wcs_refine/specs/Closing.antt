@@ -1,5 +1,5 @@
 -- The closing of `wcs_refine`: three clips with refits, then the statistics, the covariance and the matrix. Definitions only. Assumes nothing.
-use Rattle.std.specs.Prelude.{ℕ, zero, suc, ◌/◌, Bool, true, false, cond, List, [], ◌∷◌, length, pos, nat_lt, Float}
+use Rattle.std.specs.Prelude.{ℕ, zero, suc, ◌/◌, Bool, true, false, cond, List, [], ◌∷◌, length, pos, nat_lt, Float, Option, Some, None}
 use Rattle.std.specs.Float.{binary64}
 use Rattle.std.specs.Float.Ieee.{of_int}
 use Rattle.rounding.specs.Arith.{◌⊕◌, ◌⊗◌, ◌⊘◌, zero64}
@@ -12,11 +12,10 @@ use Rattle.solve.specs.Covariance.{covariance_from_normal}
 use Rattle.fit.specs.declared.Pose.{Pose}
 use Rattle.solve.specs.declared.Solution.{Solution}
 use Rattle.solve.specs.declared.Solution.TheVariants.{Solved, Failed}
-use Rattle.residuals.specs.declared.Clip.{Clip}
-use Rattle.residuals.specs.declared.Clip.TheVariants.{Kept, Unchanged}
+use Rattle.stats.specs.declared.MedianSigma.{MedianSigma}
 use Rattle.entry.specs.Fixed.{Fixed}
 use Rattle.passes.specs.Fit.{moved, sound}
-use Rattle.wcs_refine.specs.Clip.{Statistics, none, some, statistics, taken}
+use Rattle.wcs_refine.specs.Clip.{statistics, taken}
 
 -- The closing clips meet refusal 12, or leave a pose and matches.
 pub data Closed : Type 0 where
@@ -35,20 +34,20 @@ refitted p Failed after = after p
 refitted p (Solved d_theta d_xi d_eta) after = let q = moved p d_theta d_xi d_eta in if_sound (sound q) q after
 
 -- By what a clip answers: nothing clipped ends the clips; else the matches that it keeps are fitted once, and `after` is what follows.
-unfoldable pub recleaned : Fixed → List Float → List Float → Pose → List ℕ → Clip → List ℕ → (Pose → List ℕ → Closed)
+unfoldable pub recleaned : Fixed → List Float → List Float → Pose → List ℕ → Option ℕ → List ℕ → (Pose → List ℕ → Closed)
     → Closed
 unfolding refitted ls_fit_once view_of rows taken
-recleaned k spots directions p ms Unchanged new after = fine p ms
-recleaned k spots directions p ms (Kept n) new after =
-    let kept = taken (Kept n) ms new in
+recleaned k spots directions p ms None new after = fine p ms
+recleaned k spots directions p ms (Some n) new after =
+    let kept = taken (Some n) ms new in
     refitted p (ls_fit_once (view_of p k.cut) (rows spots directions kept)) (λ q. after q kept)
 
 -- One turn of the "final MAD clip passes", by the statistics of the residuals rs: fewer than 6 residuals, which have none, end the clips.
-unfoldable pub cleaned_by : Fixed → List Float → List Float → Pose → List ℕ → List Float → Statistics
+unfoldable pub cleaned_by : Fixed → List Float → List Float → Pose → List ℕ → List Float → Option MedianSigma
     → (Pose → List ℕ → Closed) → Closed
 unfolding recleaned mad_clip_matches
-cleaned_by k spots directions p ms rs none after = fine p ms
-cleaned_by k spots directions p ms rs (some t) after =
+cleaned_by k spots directions p ms rs None after = fine p ms
+cleaned_by k spots directions p ms rs (Some t) after =
     let c = mad_clip_matches rs ms t.median t.sigma in
     recleaned k spots directions p ms c.answer c.matches after
 
@@ -102,6 +101,6 @@ reported k p ms rs =
       pose = p;
       cd = cd_from_theta p.theta k.scale k.mirror;
       rms = root_mean sum vs;
-      covariance = covariance_from_normal (m.sums.ata0 ∷ m.sums.ata1 ∷ m.sums.ata2 ∷ []) sum m.n;
+      covariance = covariance_from_normal m.sums.ata sum m.n;
       matches = ms;
     }

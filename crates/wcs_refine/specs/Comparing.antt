@@ -1,6 +1,6 @@
 -- The new matches of a round, and whether they are the present ones, by a table with a place for each spot: what the code's parts promise.
 -- Definitions only. Assumes nothing.
-use Rattle.std.specs.Prelude.{◌≡◌, ℕ, ◌+◌, ◌-◌, ◌*◌, ◌<◌, ◌≤◌, Bool, false, cond, not, ◌&&◌, ◌||◌, List, [], ◌∷◌, length, take, drop, ◌==◌, nat_lt, slice_index, Float}
+use Rattle.std.specs.Prelude.{◌≡◌, ℕ, ◌+◌, ◌-◌, ◌*◌, ◌<◌, ◌≤◌, Bool, false, not, ◌&&◌, ◌||◌, List, [], ◌∷◌, length, take, drop, ◌==◌, nat_lt, slice_index, Float, Option, is_none, IfSome}
 use Rattle.std.proofs.Math.Seq.{slice}
 use Rattle.rounding.specs.Arith.{◌⊗◌}
 use Rattle.pairs.specs.Pairs.{pairs, spots_within}
@@ -89,17 +89,20 @@ pub record NewAt (n within t : ℕ) (new before after : List ℕ) : Type 0 where
   pub zeros : (s : ℕ) → s < within → slice_index after (4 * n + s) ≡ 0
   pub list : slice (8 * n) (8 * n + 2 * t) after ≡ new
 
--- The matches of the spots' points with the q predictions, and the comparisons for them, unless there are more pairs than the candidate lists hold.
-pub record FoundTo (n q : ℕ) (points : List Float) (limit : ℕ) (r : Float) (floats distances : List Float)
-    (indices before after : List ℕ) (f : Tally) : Type 0 where
-  pub full : f.full
-      ≡ nat_lt (capacity distances indices) (length (pairs points limit (slice (2 * n) (2 * n + 2 * q) floats) (r ⊗ r)))
-  pub within : f.within ≡ spots_within points limit
-  pub comparisons : f.comparisons
-      ≡ cond f.full 0
-      (comparisons not_after (pairs points limit (slice (2 * n) (2 * n + 2 * q) floats) (r ⊗ r)))
-  pub found : f.full ≡ false
-      → (f.count ≡ length (matches_of points limit (slice (2 * n) (2 * n + 2 * q) floats) (r ⊗ r)))
-      × NewAt n f.within f.count
+-- So many spots were looked at, so many matches are there, in their region, and so many comparisons put their pairs in order.
+pub record Tallied (n q : ℕ) (points : List Float) (limit : ℕ) (r : Float) (floats : List Float) (before after : List ℕ)
+    (t : Tally) : Type 0 where
+  pub within : t.within ≡ spots_within points limit
+  pub comparisons : t.comparisons
+      ≡ comparisons not_after (pairs points limit (slice (2 * n) (2 * n + 2 * q) floats) (r ⊗ r))
+  pub count : t.count ≡ length (matches_of points limit (slice (2 * n) (2 * n + 2 * q) floats) (r ⊗ r))
+  pub there : NewAt n t.within t.count
       (renamed_by (slice (3 * n) (3 * n + q) before)
       (flat (matches_of points limit (slice (2 * n) (2 * n + 2 * q) floats) (r ⊗ r)))) before after
+
+-- The matches of the spots' points with the q predictions, unless there are more pairs than the candidate lists hold.
+pub record FoundTo (n q : ℕ) (points : List Float) (limit : ℕ) (r : Float) (floats distances : List Float)
+    (indices before after : List ℕ) (f : Option Tally) : Type 0 where
+  pub full : is_none f
+      ≡ nat_lt (capacity distances indices) (length (pairs points limit (slice (2 * n) (2 * n + 2 * q) floats) (r ⊗ r)))
+  pub found : IfSome f (Tallied n q points limit r floats before after)

@@ -1,14 +1,21 @@
 -- How a call begins and ends its run, as the code's parts do it. Definitions only. Assumes nothing.
-use Rattle.std.specs.Prelude.{◌≡◌, ℕ, ◌/◌, List, ◌++◌, length, drop, Float}
+use Rattle.std.specs.Prelude.{◌≡◌, ℕ, ◌/◌, List, ◌++◌, length, drop, Float, Result}
 use Rattle.fit.specs.Rows.{rows}
 use Rattle.entry.specs.Fixed.{Fixed, start_pose_of}
 use Rattle.query.specs.Query.{empty}
 use Rattle.wcs_refine.specs.Closing.{Closed, unsound, fine, reported}
 use Rattle.wcs_refine.specs.Call.{Answer, no, ok}
 use Rattle.wcs_refine.specs.Keeping.{held_state}
-use Rattle.wcs_refine.specs.Returned.{values_of}
+use Rattle.entry.specs.Arguments.{Lent}
+use Rattle.wcs_refine.specs.Returned.{handed, values_of, lists}
+use Rattle.wcs_refine.specs.declared.working.Working.{Working}
 use Rattle.wcs_refine.specs.declared.WcsRefineResult.{WcsRefineResult}
 use Rattle.query.specs.declared.Held.{Held}
+use Rattle.refusal.specs.declared.Refusal.{Refusal}
+
+-- What a call is lent: the lists that the run works in, and the result list.
+abbrev pub lent : Working → List ℕ → Lent
+lent w result = lists w.numbers.now w.floats.now w.distances.now w.indices.now result
 
 -- The state that the run starts from: the starting matches at the front of the working list, and no cached query.
 pub record Begun (matches : List ℕ) (rotation : List (List Float)) (scale : Float) (after : List ℕ)
@@ -30,6 +37,6 @@ result_after l (no n) = l
 result_after l (ok r rounds passes queries comparisons) = r.matches ++ drop (length r.matches) l
 
 -- The values handed back, and the result list, are those of an answer.
-pub record Answered (a : Answer) (before after : List ℕ) (r : WcsRefineResult) : Type 0 where
-  pub values : r ≡ values_of a
+pub record Answered (a : Answer) (before after : List ℕ) (r : Result WcsRefineResult Refusal) : Type 0 where
+  pub values : handed r ≡ values_of a
   pub list : after ≡ result_after before a

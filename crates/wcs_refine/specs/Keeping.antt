@@ -2,10 +2,9 @@
 -- Of n places a region: the list of whole numbers has the matches from 0 on (two regions), the cached directions (2), those of the predictions (3),
 -- the matcher's work (4 to 7) and the new matches (8 and 9); the list of floats has the residuals with scratch (0 and 1), the predictions' points (2 and 3)
 -- and those of the spots within the limit (4 and 5).
-use Rattle.std.specs.Prelude.{◌≡◌, ℕ, zero, suc, ◌+◌, ◌*◌, ◌/◌, ◌≤◌, Bool, true, false, List, length, take, Float}
+use Rattle.std.specs.Prelude.{◌≡◌, ℕ, ◌+◌, ◌*◌, ◌≤◌, Bool, true, false, List, length, take, Float, Option, Some, None}
 use Rattle.std.proofs.Math.Seq.{slice}
 use Rattle.pairs.specs.Candidates.{capacity}
-use Rattle.panel.specs.Spots.{spot_numbers}
 use Rattle.panel.specs.Points.{coordinates, points_of}
 use Rattle.entry.specs.declared.Settings.{Settings}
 use Rattle.entry.specs.Entry.{fixed_of}
@@ -14,6 +13,10 @@ use Rattle.wcs_refine.specs.Associate.{laid}
 use Rattle.wcs_refine.specs.Listing.{ids_of}
 use Rattle.wcs_refine.specs.Round.{State, Next, go, done, refuse, associated, compared, searched, round, Ending, refused, ended, loop}
 use Rattle.query.specs.declared.Held.{Held}
+use Rattle.refusal.specs.Number.{number_of}
+use Rattle.refusal.specs.declared.Refusal.{Refusal}
+use Rattle.wcs_refine.specs.declared.course.Course.{Course}
+use Rattle.wcs_refine.specs.declared.working.Working.{Working}
 use Rattle.wcs_refine.specs.declared.keeping.Verdict.{Verdict}
 use Rattle.wcs_refine.specs.declared.keeping.Verdict.TheVariants.{GoOn, Done, Refused}
 use Rattle.wcs_refine.specs.declared.associating.Step.{Step}
@@ -53,27 +56,26 @@ with_used h n = record {
 
 -- ---- what every step is lent
 
--- The count of directions is that of their list, and each of the sixteen regions of the working lists has room for all of them.
-pub record Roomy (k : Settings) (n : ℕ) (directions : List Float) (numbers : List ℕ)
-    (floats : List Float) : Type 0 where
-  pub count : k.count ≡ length directions / 3
-  pub room : k.count ≤ n
+-- Each of the sixteen regions of the working lists has room.
+pub record Roomy (n : ℕ) (numbers : List ℕ) (floats : List Float) : Type 0 where
   pub many : 16 * n ≤ length numbers
   pub far : 16 * n ≤ length floats
 
--- So many spots and q predictions have room in a region, and the capacity is that of the candidate lists.
-pub record Matchable (k : Settings) (n q spots : ℕ) (numbers : List ℕ) (floats distances : List Float)
-    (indices : List ℕ) : Type 0 where
-  pub room : spots + q ≤ n
-  pub many : 16 * n ≤ length numbers
-  pub far : 16 * n ≤ length floats
-  pub capacity : k.capacity ≡ capacity distances indices
+-- And the capacity is that of the candidate lists: what a run is lent.
+pub record Ready (c : Course) (w : Working) : Type 0 where
+  pub roomy : Roomy c.room w.numbers.now w.floats.now
+  pub capacity : c.k.capacity ≡ capacity w.distances.now w.indices.now
 
--- Both, for all that the directions can bring: what a run is lent.
-pub record Ready (k : Settings) (n : ℕ) (spots directions : List Float) (numbers : List ℕ)
-    (floats distances : List Float) (indices : List ℕ) : Type 0 where
-  pub roomy : Roomy k n directions numbers floats
-  pub matchable : Matchable k n k.count (length spots / spot_numbers) numbers floats distances indices
+-- They are the same lists, as long as they were, whatever stands in them.
+pub record Same (w w' : Working) : Type 0 where
+  pub numbers : w'.numbers.ghost_name ≡ w.numbers.ghost_name
+  pub floats : w'.floats.ghost_name ≡ w.floats.ghost_name
+  pub distances : w'.distances.ghost_name ≡ w.distances.ghost_name
+  pub indices : w'.indices.ghost_name ≡ w.indices.ghost_name
+  pub numbers_long : length w'.numbers.now ≡ length w.numbers.now
+  pub floats_long : length w'.floats.now ≡ length w.floats.now
+  pub distances_long : length w'.distances.now ≡ length w.distances.now
+  pub indices_long : length w'.indices.now ≡ length w.indices.now
 
 -- A state has room in its regions.
 pub record Fits (k : Settings) (n : ℕ) (h : Held) : Type 0 where
@@ -86,7 +88,7 @@ pub record Fits (k : Settings) (n : ℕ) (h : Held) : Type 0 where
 unfoldable pub next_of : Verdict → State → Next
 next_of GoOn s = go s
 next_of Done s = done s
-next_of (Refused x) s = refuse x
+next_of (Refused r) s = refuse (number_of r)
 
 -- The predictions stand in their regions: so many.
 pub record Predicted (n q : ℕ) (numbers : List ℕ) (floats : List Float) (qs : List Prediction) : Type 0 where
@@ -98,6 +100,10 @@ pub record PointsAt (spots : List Float) (k to : ℕ) (before after : List Float
   pub long : length after ≡ length before
   pub points : slice to (to + 2 * k) after ≡ coordinates spots 0 k
   pub front : (a e : ℕ) → e ≤ to → slice a e after ≡ slice a e before
+
+-- The points of so many spots that stand in their regions.
+abbrev pub points_at : ℕ → ℕ → List Float → List Float
+points_at n k floats = slice (4 * n) (4 * n + 2 * k) floats
 
 -- The matcher on points of spots and on the predictions that stand in their regions, at the state h.
 pub record AssociatedTo (k : Settings) (n : ℕ) (points : List Float) (h : Held) (r : Float) (q : ℕ) (before : List ℕ)
@@ -154,10 +160,10 @@ pub record RoundTo (k : Settings) (n : ℕ) (spots directions : List Float) (h :
   pub passes : s.passes ≡ (round (fixed_of k) spots directions (held_state n h before)).passes
   pub fits : Fits k n s.held
 
--- How the code's loop ended: the number of a refusal, or 0 and a state.
-unfoldable pub ending_of : ℕ → State → Ending
-ending_of zero s = ended s
-ending_of (suc x) s = refused (suc x)
+-- How the code's loop ended: with a refusal, or in a state.
+unfoldable pub ending_of : Option Refusal → State → Ending
+ending_of None s = ended s
+ending_of (Some r) s = refused (number_of r)
 
 -- The code's loop, at most so many rounds from the state h, is that of the definition, with its counts.
 pub record RanTo (k : Settings) (n : ℕ) (spots directions : List Float) (most : ℕ) (h : Held) (before after : List ℕ)

@@ -1,6 +1,7 @@
 -- What the matches of a round mean: the one list of crate `matching`'s `Meaning.antt`, in every round. Definitions only; the proof is
 -- `proofs/RoundMeaning.antt`. Assumes nothing.
-use Rattle.std.specs.Prelude.{◌≡◌, ℕ, ◌/◌, ◌<◌, ◌≤◌, true, cond, ◌⊎◌, List, length, slice_index_or, Float}
+use Rattle.stats.specs.declared.MedianSigma.{MedianSigma}
+use Rattle.std.specs.Prelude.{◌≡◌, ℕ, ◌/◌, ◌<◌, ◌≤◌, true, cond, ◌⊎◌, List, length, slice_index_or, Float, Option}
 use Rattle.rounding.specs.Arith.{◌⊗◌}
 use Rattle.pairs.specs.Pairs.{point_at, pairs, spots_within}
 use Rattle.pairs.specs.Candidates.{point}
@@ -14,7 +15,7 @@ use Rattle.residuals.specs.Residual.{residuals}
 use Rattle.entry.specs.Fixed.{Fixed}
 use Rattle.passes.specs.Fit.{Passes, fit_passes}
 use Rattle.query.specs.Query.{Cache, empty, full, query, drifted, Prediction, predictions}
-use Rattle.wcs_refine.specs.Clip.{Statistics, statistics, clipped}
+use Rattle.wcs_refine.specs.Clip.{statistics, clipped}
 use Rattle.wcs_refine.specs.Associate.{adaptive_px, laid, direction_of, renamed}
 use Rattle.wcs_refine.specs.Round.{State, Next, refuse, settled, most_passes, round}
 
@@ -28,7 +29,7 @@ module _ (k : Fixed) (spots directions : List Float) (s : State) where
   abbrev pub measured : List Float
   measured = residuals (view_of fit.pose k.cut) (rows spots directions s.matches)
 
-  abbrev pub spread : Statistics
+  abbrev pub spread : Option MedianSigma
   spread = statistics measured
 
   abbrev pub radius : Float

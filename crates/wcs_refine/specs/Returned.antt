@@ -1,15 +1,29 @@
 -- What the call hands back: 01's number and values for each case of the answer, and the equation that its contract is. Definitions only. Assumes nothing.
-use Rattle.std.specs.Prelude.{◌≡◌, ℕ, ◌/◌, Bool, List, [], ◌∷◌, length, Float}
+use Rattle.std.specs.Prelude.{◌≡◌, ℕ, ◌/◌, Bool, List, [], ◌∷◌, length, Float, Result, Ok, Err}
 use Rattle.rounding.specs.Arith.{zero64}
-use Rattle.solve.specs.Vector.{row}
 use Rattle.fit.specs.declared.Pose.{Pose}
+use Rattle.refusal.specs.Number.{number_of}
+use Rattle.refusal.specs.declared.Refusal.{Refusal}
 use Rattle.entry.specs.Arguments.{Call, Lent}
 use Rattle.wcs_refine.specs.Closing.{Report}
 use Rattle.wcs_refine.specs.Call.{Answer, no, ok, Outcome, outcome}
 use Rattle.wcs_refine.specs.declared.WcsRefineResult.{WcsRefineResult}
 
+-- What is handed back: the number of the refusal, 0 where there is none, the counts, and the values of a pose.
+pub record Values : Type 0 where
+  pub refusal : ℕ
+  pub matches : ℕ
+  pub rounds : ℕ
+  pub passes : ℕ
+  pub queries : ℕ
+  pub comparisons : ℕ
+  pub pose : Pose
+  pub cd : List (List Float)
+  pub rmse_rad : Float
+  pub cov : List (List Float)
+
 -- "A refusal gives its number; pose and counts are zero."
-unfoldable pub refused_with : ℕ → WcsRefineResult
+unfoldable pub refused_with : ℕ → Values
 refused_with n =
     let z2 = zero64 ∷ zero64 ∷ [] in
     let z3 = zero64 ∷ zero64 ∷ zero64 ∷ [] in
@@ -22,16 +36,13 @@ refused_with n =
       queries = 0;
       comparisons = 0;
       pose = p;
-      cd0 = z2;
-      cd1 = z2;
+      cd = z2 ∷ z2 ∷ [];
       rmse_rad = zero64;
-      cov0 = z3;
-      cov1 = z3;
-      cov2 = z3;
+      cov = z3 ∷ z3 ∷ z3 ∷ [];
     }
 
 -- An accepted call: no refusal, the counts, and the report with its matrices by rows.
-unfoldable pub accepted : Report → ℕ → ℕ → ℕ → ℕ → WcsRefineResult
+unfoldable pub accepted : Report → ℕ → ℕ → ℕ → ℕ → Values
 accepted r rounds passes queries comparisons = record {
   refusal = 0;
   matches = length r.matches / 2;
@@ -40,23 +51,41 @@ accepted r rounds passes queries comparisons = record {
   queries = queries;
   comparisons = comparisons;
   pose = r.pose;
-  cd0 = row r.cd 0;
-  cd1 = row r.cd 1;
+  cd = r.cd;
   rmse_rad = r.rms;
-  cov0 = row r.covariance 0;
-  cov1 = row r.covariance 1;
-  cov2 = row r.covariance 2;
+  cov = r.covariance;
 }
 
--- "If an answer is an enum, a definition states this paper's number and values for each of its cases."
-unfoldable pub values_of : Answer → WcsRefineResult
+-- "If an answer is an enum, a definition states this paper's number and values for each of its cases": of the definition's answer,
+unfoldable pub values_of : Answer → Values
 unfolding refused_with accepted
 values_of (no n) = refused_with n
 values_of (ok r rounds passes queries comparisons) = accepted r rounds passes queries comparisons
 
+-- what the code answers, beside a number,
+abbrev pub numbered : ℕ → WcsRefineResult → Values
+numbered n r = record {
+  refusal = n;
+  matches = r.matches;
+  rounds = r.rounds;
+  passes = r.passes;
+  queries = r.queries;
+  comparisons = r.comparisons;
+  pose = r.pose;
+  cd = r.cd;
+  rmse_rad = r.rmse_rad;
+  cov = r.cov;
+}
+
+-- and of the code's answer.
+unfoldable pub handed : Result WcsRefineResult Refusal → Values
+unfolding refused_with
+handed (Ok r) = numbered 0 r
+handed (Err r) = refused_with (number_of r)
+
 -- What a call hands back, and what the lent lists hold then.
 pub record Returned : Type 0 where
-  pub result : WcsRefineResult
+  pub result : Values
   pub lent : Lent
 
 -- The same of the outcome of a call.
@@ -93,5 +122,5 @@ called spots matches directions rotation scale mirror radius cut limit rounds le
 }
 
 -- The contract of the call, one equation: what it hands back, with every list written to, is what the definition of the whole call says.
-abbrev pub Answers : Call → WcsRefineResult → Lent → Type 0
-Answers c r l = record { result = r; lent = l } ≡ returned (outcome c)
+abbrev pub Answers : Call → Result WcsRefineResult Refusal → Lent → Type 0
+Answers c r l = record { result = handed r; lent = l } ≡ returned (outcome c)

@@ -1,5 +1,5 @@
 -- What the parts of a round answer. Definitions only. Assumes nothing.
-use Rattle.std.specs.Prelude.{◌≡◌, ℕ, ◌*◌, ◌/◌, ◌≤◌, Bool, true, false, List, length, take, Float}
+use Rattle.std.specs.Prelude.{◌≡◌, ℕ, ◌*◌, ◌/◌, ◌≤◌, List, length, take, Float, Option, Some, None}
 use Rattle.fit.specs.Rows.{rows, view_of}
 use Rattle.residuals.specs.Residual.{residuals}
 use Rattle.fit.specs.declared.Pose.{Pose}
@@ -10,6 +10,7 @@ use Rattle.wcs_refine.specs.Associate.{adaptive_px}
 use Rattle.wcs_refine.specs.Round.{Found, rest}
 use Rattle.wcs_refine.specs.Keeping.{held_cache, held_matches, held_state, Fits, next_of}
 use Rattle.query.specs.declared.Held.{Held}
+use Rattle.refusal.specs.declared.Refusal.{Refusal}
 use Rattle.wcs_refine.specs.declared.keeping.Verdict.{Verdict}
 use Rattle.wcs_refine.specs.declared.keeping.Verdict.TheVariants.{GoOn, Done, Refused}
 use Rattle.wcs_refine.specs.declared.searching.Sought.{Sought}
@@ -26,16 +27,11 @@ posed h p = record {
   cached = h.cached;
 }
 
--- Whether the rounds end with a verdict, and the number of its refusal, else 0.
-unfoldable pub stopped : Verdict → Bool
-stopped GoOn = false
-stopped Done = true
-stopped (Refused x) = true
-
-unfoldable pub refusal_of : Verdict → ℕ
-refusal_of GoOn = 0
-refusal_of Done = 0
-refusal_of (Refused x) = x
+-- How the rounds end with a verdict, if they do: converged, or with a refusal.
+unfoldable pub ending : Verdict → Option (Option Refusal)
+ending GoOn = None
+ending Done = Some None
+ending (Refused r) = Some (Some r)
 
 -- The residuals of matches at a pose.
 abbrev pub residuals_at : Settings → List Float → List Float → Pose → List ℕ → List Float

@@ -11,6 +11,8 @@ use Rattle.wcs_refine.specs.Associate.{Link, links}
 use Rattle.wcs_refine.specs.Call.{queries, outcome}
 use Rattle.wcs_refine.specs.Returned.{Answers}
 use Rattle.wcs_refine.specs.declared.WcsRefineResult.{WcsRefineResult}
+use Rattle.refusal.specs.declared.Refusal.{Refusal}
+use Rattle.std.specs.Prelude.{Result}
 
 -- "Alike: equal list lengths, other arguments equal bit for bit, and lists written to holding the same bits before the call."
 pub record Alike (a b : Call) : Type 0 where
@@ -87,5 +89,5 @@ UnseenChangesNothing = (a b : Call) → Alike a b → OnlyUnseen a b → outcome
 -- The same of the code, whose contract is `Answers`: two such calls hand back the same, and leave every list that they write to alike.
 abbrev pub CallsAgree : Type 0
 CallsAgree =
-    (a b : Call) (r s : WcsRefineResult) (l m : Lent) → Alike a b → OnlyUnseen a b → Answers a r l → Answers b s m
+    (a b : Call) (r s : Result WcsRefineResult Refusal) (l m : Lent) → Alike a b → OnlyUnseen a b → Answers a r l → Answers b s m
     → (r ≡ s) × (l ≡ m)

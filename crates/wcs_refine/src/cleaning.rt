@@ -7,10 +7,11 @@ ghost use Rattle.fit.specs.declared.Pose.{Pose};
 ghost use Rattle.wcs_refine.specs.Closing.{Closed, refitted};
 ghost use Rattle.wcs_refine.specs.Cleaning.{closing_clip, follows, CleanedTo};
 
-use crate::clipping::{Stats, compute_stats};
+use crate::clipping::compute_stats;
+use crate::course::Course;
 use fit::{Pose, ls_fit_once};
 use passes::{is_sound, moved};
-use residuals::{Clip, compute_residuals, mad_clip_matches};
+use residuals::{compute_residuals, mad_clip_matches};
 use solve::Solution;
 
 const MOST_CLIPS: usize = 3;
@@ -18,105 +19,78 @@ const MOST_CLIPS: usize = 3;
 // The fewest matches that are clipped.
 const FEWEST_MATCHES: usize = 6;
 
-// The pose after a refit, and whether it stayed within the bounds.
-#[derive(Drop)]
-struct Refitted {
-    pub pose: Pose,
-    pub fine: bool,
-}
-
-// The pose after the closing clips, how many matches are left, and whether the pose stayed within the bounds.
-#[derive(Drop)]
+// The pose after the closing clips, and how many matches are left.
+#[derive(Clone, Copy)]
 pub(crate) struct Cleaned {
     pub pose: Pose,
     pub used: usize,
-    pub fine: bool,
 }
 
-// One least-squares pass on the cleaned set.
-fn refit(matches: &[usize], directions: &[f32], spots: &[f64], pose: Pose, cut: f64) -> Refitted
+// One least-squares pass on the cleaned set: the pose after it, unless that leaves its bounds.
+fn refit(course: &Course<'_>, pose: Pose, matches: &[usize]) -> Option<Pose>
     ensures { (after : Pose → Closed) → follows result after
         ≡ refitted pose
-        (ls_fit_once (view_of pose cut) (rows spots.now directions.now matches.now))
+        (ls_fit_once (view_of pose course.now.k.cut)
+        (rows course.now.spots.now course.now.directions.now matches.now))
         after }
 {
-    let s = ls_fit_once(matches, directions, spots, pose, cut);
+    let s = ls_fit_once(matches, course.directions, course.spots, pose, course.k.cut);
     let Solution::Solved(d_theta, d_xi, d_eta) = s else {
-        return Refitted { pose, fine: true };
+        return Some(pose);
     };
     let q = moved(pose, d_theta, d_xi, d_eta);
-    let fine = is_sound(q);
-    Refitted { pose: q, fine }
+    if is_sound(q) { Some(q) } else { None }
 }
 
-// One clip. The first places of floats take the residuals, and those after them are scratch.
+// One clip: how many matches it leaves, if it has an effect. The first places of floats take the residuals, and those after them are scratch.
 fn clip_once(
+    course: &Course<'_>,
+    pose: Pose,
     matches: &mut [usize],
     floats: &mut [f64],
-    directions: &[f32],
-    spots: &[f64],
-    pose: Pose,
-    cut: f64,
-) -> Clip
+) -> Option<usize>
     requires { 2 * (length matches.old / 2) ≤ length floats.old }
-    ensures { clipped result matches.new ≡ closing_clip cut spots.now directions.now pose
-        matches.old }
+    ensures { clipped result matches.new ≡ closing_clip course.now.k.cut course.now.spots.now
+        course.now.directions.now pose matches.old }
 {
     let n = matches.len() / 2;
     if n < FEWEST_MATCHES {
-        return Clip::Unchanged;
+        return None;
     }
-    let in_front = compute_residuals(matches, directions, spots, pose, cut, floats);
-    let s = compute_stats(floats, n, in_front);
-    let Stats::Of(median, sigma) = s else {
-        return Clip::Unchanged;
-    };
-    mad_clip_matches(&floats[0..n], matches, median, sigma)
+    let in_front = compute_residuals(
+        matches,
+        course.directions,
+        course.spots,
+        pose,
+        course.k.cut,
+        floats,
+    );
+    let s = compute_stats(floats, n, in_front)?;
+    mad_clip_matches(&floats[0..n], matches, s.median, s.sigma)
 }
 
-// The matches are the first 2 * used numbers of their list, before as after.
+// The closing clips, unless the pose leaves its bounds. The matches are the first 2 * used numbers of their list, before as after.
 pub(crate) fn clean(
-    matches: &mut [usize],
-    floats: &mut [f64],
-    directions: &[f32],
-    spots: &[f64],
+    course: &Course<'_>,
     pose: Pose,
     used: usize,
-    cut: f64,
-) -> Cleaned
+    matches: &mut [usize],
+    floats: &mut [f64],
+) -> Option<Cleaned>
     requires { (2 * used ≤ length matches.old) × (2 * used ≤ length floats.old) }
-    ensures { CleanedTo cut spots.now directions.now pose used matches.old
-        matches.new result }
+    ensures { CleanedTo course.now.k.cut course.now.spots.now course.now.directions.now pose used
+        matches.old matches.new result }
 {
     let mut p = pose;
     let mut n = used;
-    let mut i: usize = 0;
-    while i < MOST_CLIPS {
+    for _turn in 0..MOST_CLIPS {
         let to = 2 * n;
-        let c = clip_once(&mut matches[0..to], floats, directions, spots, p, cut);
-        let Clip::Kept(k) = c else {
-            return Cleaned {
-                pose: p,
-                used: n,
-                fine: true,
-            };
+        let c = clip_once(course, p, &mut matches[0..to], floats);
+        let Some(k) = c else {
+            return Some(Cleaned { pose: p, used: n });
         };
         n = k;
-        let kept = 2 * k;
-        let r = refit(&matches[0..kept], directions, spots, p, cut);
-        p = r.pose;
-        if !r.fine {
-            return Cleaned {
-                pose: p,
-                used: n,
-                fine: false,
-            };
-        }
-        i += 1;
+        p = refit(course, p, &matches[0..2 * k])?;
     }
-    Cleaned {
-        pose: p,
-        used: n,
-        fine: true,
-    }
+    Some(Cleaned { pose: p, used: n })
 }

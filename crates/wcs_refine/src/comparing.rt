@@ -47,20 +47,16 @@ pub(crate) fn same_matches(
     if t != used {
         return false;
     }
-    let mut i: usize = 0;
-    while i < t {
+    for i in 0..t {
         let spot = numbers[start + 2 * i];
         numbers[base + spot] = i + 1;
-        i += 1;
     }
-    let mut j: usize = 0;
-    while j < t {
+    for j in 0..t {
         let spot = numbers[2 * j];
         let direction = numbers[2 * j + 1];
         if !strike(numbers, base, n, start, t, spot, direction) {
             return false;
         }
-        j += 1;
     }
     true
 }

@@ -6,25 +6,22 @@ ghost use Rattle.wcs_refine.specs.Closing.{most_clips, cleaned};
 ghost use Rattle.wcs_refine.specs.Ending.{Begun, concluded, Answered};
 
 use crate::WcsRefineResult;
-use crate::answering::{accepted, refused};
-use crate::cleaning::clean;
-use crate::reporting::report;
+use crate::cleaning::{Cleaned, clean};
+use crate::course::Course;
+use crate::reporting::{Numbers, report};
 use crate::rounds::Ran;
-use entry::{Settings, start_pose};
+use entry::start_pose;
 use query::Held;
-
-// The refusal of a pose that leaves its bounds.
-const UNSOUND: usize = 12;
+use refusal::Refusal;
 
 // What stands after the front stays.
+// Stays (C interface): place by place, since the library's copy of a slice calls `memmove`, and the static library is linked with no such function.
 fn lay_over(new: &[usize], l: &mut [usize])
     requires { length new.now ≤ length l.old }
     ensures { l.new ≡ fronted new.now l.old }
 {
-    let mut i: usize = 0;
-    while i < new.len() {
+    for i in 0..new.len() {
         l[i] = new[i];
-        i += 1;
     }
 }
 
@@ -39,11 +36,9 @@ pub(crate) fn begin(
     ensures { Begun matches.now rotation scale numbers.new result }
 {
     lay_over(matches, numbers);
-    let pose = start_pose(rotation, scale);
-    let used = matches.len() / 2;
     Held {
-        pose,
-        used,
+        pose: start_pose(rotation, scale),
+        used: matches.len() / 2,
         filled: false,
         boresight: [0.0, 0.0, 0.0],
         theta: 0.0,
@@ -53,49 +48,39 @@ pub(crate) fn begin(
 
 // From the state that the loop ended in. The first places of floats take the residuals.
 pub(crate) fn finish(
-    spots: &[f64],
-    directions: &[f32],
-    k: Settings,
+    course: &Course<'_>,
     ran: Ran,
     numbers: &mut [usize],
     floats: &mut [f64],
     result_list: &mut [usize],
-) -> WcsRefineResult
+) -> Result<WcsRefineResult, Refusal>
     requires { (2 * ran.held.used ≤ length numbers.old) × (2 * ran.held.used ≤ length floats.old)
         × (2 * ran.held.used ≤ length result_list.old) }
     ensures { Answered
-        (concluded (fixed_of k) spots.now directions.now
-        (cleaned (fixed_of k) spots.now directions.now most_clips ran.held.pose
-        (take (2 * ran.held.used) numbers.old))
+        (concluded (fixed_of course.now.k) course.now.spots.now course.now.directions.now
+        (cleaned (fixed_of course.now.k) course.now.spots.now course.now.directions.now most_clips
+        ran.held.pose (take (2 * ran.held.used) numbers.old))
         ran.rounds ran.passes ran.queries ran.comparisons)
         result_list.old result_list.new result }
 {
     let held = ran.held;
-    let pose = held.pose;
-    let c = clean(numbers, floats, directions, spots, pose, held.used, k.cut);
-    if !c.fine {
-        return refused(UNSOUND);
-    }
-    let to = 2 * c.used;
-    let last = c.pose;
-    let n = report(
-        &numbers[0..to],
-        floats,
-        directions,
-        spots,
-        last,
-        k.scale,
-        k.mirror,
-        k.cut,
-    );
+    let c = clean(course, held.pose, held.used, numbers, floats);
+    let Some(Cleaned { pose, used }) = c else {
+        return Err(Refusal::Unsound);
+    };
+    let to = 2 * used;
+    let n = report(course, pose, &numbers[0..to], floats);
     lay_over(&numbers[0..to], result_list);
-    accepted(
-        n,
-        last,
-        c.used,
-        ran.rounds,
-        ran.passes,
-        ran.queries,
-        ran.comparisons,
-    )
+    let Numbers { rms, cd, cov } = n;
+    Ok(WcsRefineResult {
+        matches: used,
+        rounds: ran.rounds,
+        passes: ran.passes,
+        queries: ran.queries,
+        comparisons: ran.comparisons,
+        pose,
+        cd,
+        rmse_rad: rms,
+        cov,
+    })
 }

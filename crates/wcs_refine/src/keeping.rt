@@ -3,27 +3,19 @@ ghost use Rattle.std.specs.Prelude.{◌≡◌};
 ghost use Rattle.wcs_refine.specs.Keeping.{with_used};
 
 use query::Held;
+use refusal::Refusal;
 
 // The run goes on, has converged, or meets a refusal.
 #[derive(Clone, Copy)]
 pub(crate) enum Verdict {
     GoOn,
     Done,
-    Refused(usize),
+    Refused(Refusal),
 }
 
 // The same state with another count of matches.
 pub(crate) fn with_used(h: Held, used: usize) -> Held
     ensures { result ≡ with_used h used }
 {
-    let pose = h.pose;
-    let boresight = h.boresight;
-    Held {
-        pose,
-        used,
-        filled: h.filled,
-        boresight,
-        theta: h.theta,
-        cached: h.cached,
-    }
+    Held { used, ..h }
 }

@@ -4,52 +4,52 @@
 ghost use Rattle.std.specs.Prelude.{◌≡◌};
 ghost use Rattle.entry.specs.Check.{refusal};
 ghost use Rattle.wcs_refine.specs.Call.{answer};
-ghost use Rattle.wcs_refine.specs.Ending.{Answered};
+ghost use Rattle.wcs_refine.specs.Ending.{lent, Answered};
 ghost use Rattle.wcs_refine.specs.Returned.{lists, called, Answers};
 
+use course::Course;
 use entry::{clear_all, refusal_of, settings_of};
 use fit::Pose;
 use panel::SPOT_NUMBERS;
+use refusal::Refusal;
+use working::Working;
 
 mod clipping; // clipping.rt: the statistics of the residuals, and the clip of a round
 mod predict; // predict.rt: the predictions of the listed directions
 mod rename; // rename.rt: the matches by their directions
 mod cleaning; // cleaning.rt: the closing clips, each with a refit
 mod reporting; // reporting.rt: the numbers that an accepted call reports
+mod course; // course.rt: what a run reads and never changes
+mod working; // working.rt: the lists that a run works in
 mod keeping; // keeping.rt: what a round starts from and leaves
 mod looking; // looking.rt: the cone query, unless the cached one serves, and the predictions
 mod associating; // associating.rt: the matcher on the predictions
 mod comparing; // comparing.rt: whether new matches are the present ones
 mod searching; // searching.rt: a round's search
-mod answering; // answering.rt: the answer's values, by case
 mod rounds; // rounds.rt: one round, and the loop
 mod finishing; // finishing.rt: how the run begins, and the closing that follows it
 
-// The answer: the number of a refusal, or 0 and a pose. Beside the pose: how many matches stand in the result list, the rounds, fit passes and
-// queries of the run, the most comparisons by which a round put its pairs in order, the matrix and the covariance by rows, and the error. Refused, all
-// but the number is zero.
+// What an accepted call answers. Beside the pose: how many matches stand in the result list, the rounds, fit passes and queries of the run, the
+// most comparisons by which a round put its pairs in order, the matrix and the covariance by rows, and the error.
 #[derive(Clone, Copy)]
 pub struct WcsRefineResult {
-    pub refusal: usize,
     pub matches: usize,
     pub rounds: usize,
     pub passes: usize,
     pub queries: usize,
     pub comparisons: usize,
     pub pose: Pose,
-    pub cd0: [f64; 2],
-    pub cd1: [f64; 2],
+    pub cd: [[f64; 2]; 2],
     pub rmse_rad: f64,
-    pub cov0: [f64; 3],
-    pub cov1: [f64; 3],
-    pub cov2: [f64; 3],
+    pub cov: [[f64; 3]; 3],
 }
 
 // The run and the closing of a call that passes the checks.
-fn refined(
-    spots: &[f64],
+// Stays (form of 01): the call's lists and numbers as it is given them; what the run reads of them is one `Course` from here on.
+fn refined<'a>(
+    spots: &'a [f64],
     matches: &[usize],
-    directions: &[f32],
+    directions: &'a [f32],
     rotation: [[f32; 3]; 3],
     scale: f64,
     mirror: bool,
@@ -57,21 +57,15 @@ fn refined(
     cut: f64,
     limit: usize,
     rounds: usize,
-    numbers: &mut [usize],
-    floats: &mut [f64],
-    distances: &mut [f64],
-    indices: &mut [usize],
+    w: &mut Working<'_>,
     result_list: &mut [usize],
-) -> WcsRefineResult
+) -> Result<WcsRefineResult, Refusal>
     requires { refusal (called spots.now matches.now directions.now rotation scale mirror radius cut
-        limit rounds
-        (lists numbers.old floats.old distances.old indices.old result_list.old)) ≡ 0 }
+        limit rounds (lent w.old result_list.old)) ≡ 0 }
     ensures { Answered
         (answer
         (called spots.now matches.now directions.now rotation scale mirror radius
-        cut limit rounds
-        (lists numbers.old floats.old distances.old indices.old
-        result_list.old)))
+        cut limit rounds (lent w.old result_list.old)))
         result_list.old result_list.new result }
 {
     let room = spots.len() / SPOT_NUMBERS + matches.len() / 2 + directions.len() / 3;
@@ -83,23 +77,28 @@ fn refined(
         radius,
         cut,
         limit,
-        distances.len(),
-        indices.len(),
+        w.distances.len(),
+        w.indices.len(),
     );
-    let held = finishing::begin(matches, rotation, scale, numbers);
-    let ran = rounds::run(
-        spots, directions, k, room, rounds, held, numbers, floats, distances, indices,
-    );
-    if ran.refusal != 0 {
-        return answering::refused(ran.refusal);
+    let held = finishing::begin(matches, rotation, scale, w.numbers);
+    let course = Course {
+        spots,
+        directions,
+        k,
+        room,
+    };
+    let ran = rounds::run(&course, rounds, held, w);
+    if let Some(refusal) = ran.refusal {
+        return Err(refusal);
     }
-    finishing::finish(spots, directions, k, ran, numbers, floats, result_list)
+    finishing::finish(&course, ran, w.numbers, w.floats, result_list)
 }
 
 // Refines the pose of a rotation from spots (flat, x, y and weight), directions (flat, three components) and starting matches (flat, spot then
 // direction). A spot pulls on the pose by its weight; it is matched, clipped and measured without it. A direction whose denominator is at most `cut`
 // is dropped, everywhere in the run. `numbers` and `floats` are working lists, `distances` and `indices` room for candidate pairs; the matches go to
 // `result_list`.
+// Stays (form of 01): the lists and numbers of a call come flat, each by itself.
 pub fn wcs_refine(
     spots: &[f64],
     matches: &[usize],
@@ -116,7 +115,7 @@ pub fn wcs_refine(
     distances: &mut [f64],
     indices: &mut [usize],
     result_list: &mut [usize],
-) -> WcsRefineResult
+) -> Result<WcsRefineResult, Refusal>
     ensures { Answers
         (called spots.now matches.now directions.now rotation scale mirror radius
         cut limit rounds
@@ -126,7 +125,7 @@ pub fn wcs_refine(
         (lists numbers.new floats.new distances.new indices.new
         result_list.new) }
 {
-    let number = refusal_of(
+    refusal_of(
         spots,
         matches,
         directions,
@@ -139,10 +138,8 @@ pub fn wcs_refine(
         numbers.len(),
         floats.len(),
         result_list.len(),
-    );
-    if number != 0 {
-        return answering::refused(number);
-    }
+    )?;
+    let mut w = Working::new(numbers, floats, distances, indices);
     let r = refined(
         spots,
         matches,
@@ -154,10 +151,7 @@ pub fn wcs_refine(
         cut,
         limit,
         rounds,
-        numbers,
-        floats,
-        distances,
-        indices,
+        &mut w,
         result_list,
     );
     clear_all(numbers, floats, distances, indices);

@@ -25,9 +25,8 @@ pub(crate) fn predict_into(
         numbers.new xy.old xy.new result }
 {
     let inv = 1.0 / scale;
-    let mut k: usize = 0;
-    let mut i: usize = 0;
-    while i < n {
+    let mut k = 0;
+    for i in 0..n {
         let j = numbers[from + i];
         let f = fall_at(directions, j, rows, inv, cut, prune_r);
         if f.inside {
@@ -36,7 +35,6 @@ pub(crate) fn predict_into(
             xy[2 * k + 1] = f.y;
             k += 1;
         }
-        i += 1;
     }
     k
 }

@@ -31,13 +31,11 @@ pub(crate) fn renamed_into(
         ++ renamed_by (slice ids (ids + count) numbers.old) (slice from (from + 2 * t) numbers.old)
         ++ drop (to + 2 * t) numbers.old }
 {
-    let mut i: usize = 0;
-    while i < t {
+    for i in 0..t {
         let spot = numbers[from + 2 * i];
         let place = numbers[from + 2 * i + 1];
         let direction = id_at(&numbers[..], ids, count, place);
         numbers[to + 2 * i] = spot;
         numbers[to + 2 * i + 1] = direction;
-        i += 1;
     }
 }

@@ -7,25 +7,23 @@ ghost use Rattle.rounding.specs.Root.{root};
 ghost use Rattle.fit.specs.Rows.{rows, view_of};
 ghost use Rattle.residuals.specs.Residual.{in_front};
 ghost use Rattle.fit.specs.Normal.{normal_matrix};
-ghost use Rattle.entry.specs.Fixed.{Fixed};
+ghost use Rattle.entry.specs.Entry.{fixed_of};
 ghost use Rattle.wcs_refine.specs.Closing.{sum_squares, reported};
 ghost use Rattle.wcs_refine.specs.Cleaning.{covariance_of, report_of};
 
+use crate::course::Course;
 use fit::{Pose, normal_matrix};
 use project::cd_from_theta;
 use residuals::{NO_RESIDUAL, compute_residuals};
-use rounding::sqrt64;
+use rounding::sqrt;
 use solve::covariance_from_normal;
 
 // The matrices by rows.
-#[derive(Drop)]
+#[derive(Clone, Copy)]
 pub(crate) struct Numbers {
     pub rms: f64,
-    pub cd0: [f64; 2],
-    pub cd1: [f64; 2],
-    pub cov0: [f64; 3],
-    pub cov1: [f64; 3],
-    pub cov2: [f64; 3],
+    pub cd: [[f64; 2]; 2],
+    pub cov: [[f64; 3]; 3],
 }
 
 // The sum of the squares of the residuals in front of the plane, from the left.
@@ -33,13 +31,10 @@ fn sum_squares(residuals: &[f64]) -> f64
     ensures { result ≡ sum_squares (in_front residuals.now) zero64 }
 {
     let mut s = 0.0;
-    let mut i: usize = 0;
-    while i < residuals.len() {
-        let x = residuals[i];
+    for &x in residuals {
         if x != NO_RESIDUAL {
             s = s + x * x;
         }
-        i += 1;
     }
     s
 }
@@ -51,65 +46,45 @@ fn root_mean(sum: f64, n: usize) -> f64
     if n < 1 {
         return 0.0;
     }
-    sqrt64(sum / std::num::nearest_u64_to_f64(n as u64))
+    sqrt(sum / std::num::nearest_u64_to_f64(n as u64))
 }
 
 // The covariance of the pose's corrections, from the sum of the squares.
-fn covariance(
-    matches: &[usize],
-    directions: &[f32],
-    spots: &[f64],
-    pose: Pose,
-    cut: f64,
-    sum: f64,
-) -> [[f64; 3]; 3]
+fn covariance(course: &Course<'_>, pose: Pose, matches: &[usize], sum: f64) -> [[f64; 3]; 3]
     ensures { result
         ≡ covariance_of
-        (normal_matrix (view_of pose cut) (rows spots.now directions.now matches.now))
+        (normal_matrix (view_of pose course.now.k.cut)
+        (rows course.now.spots.now course.now.directions.now matches.now))
         sum }
 {
-    let m = normal_matrix(matches, directions, spots, pose, cut);
-    let s = m.sums;
-    let a0 = s.ata0;
-    let a1 = s.ata1;
-    let a2 = s.ata2;
-    covariance_from_normal([a0, a1, a2], sum, m.n)
+    let m = normal_matrix(matches, course.directions, course.spots, pose, course.k.cut);
+    covariance_from_normal(m.sums.ata, sum, m.n)
 }
 
 // The first places of floats take the residuals.
 pub(crate) fn report(
+    course: &Course<'_>,
+    pose: Pose,
     matches: &[usize],
     floats: &mut [f64],
-    directions: &[f32],
-    spots: &[f64],
-    pose: Pose,
-    scale: f64,
-    mirror: bool,
-    cut: f64,
 ) -> Numbers
     requires { length matches.now / 2 ≤ length floats.old }
-    ensures { (k : Fixed) → k.cut ≡ cut → k.scale ≡ scale → k.mirror ≡ mirror
-        → report_of result pose matches.now
-        ≡ reported k pose matches.now
-        (rows spots.now directions.now matches.now) }
+    ensures { report_of result pose matches.now
+        ≡ reported (fixed_of course.now.k) pose matches.now
+        (rows course.now.spots.now course.now.directions.now matches.now) }
 {
     let n = matches.len() / 2;
-    let in_front = compute_residuals(matches, directions, spots, pose, cut, floats);
+    let in_front = compute_residuals(
+        matches,
+        course.directions,
+        course.spots,
+        pose,
+        course.k.cut,
+        floats,
+    );
     let sum = sum_squares(&floats[0..n]);
     let rms = root_mean(sum, in_front);
-    let cov = covariance(matches, directions, spots, pose, cut, sum);
-    let cd = cd_from_theta(pose.theta, scale, mirror);
-    let cd0 = cd[0];
-    let cd1 = cd[1];
-    let cov0 = cov[0];
-    let cov1 = cov[1];
-    let cov2 = cov[2];
-    Numbers {
-        rms,
-        cd0,
-        cd1,
-        cov0,
-        cov1,
-        cov2,
-    }
+    let cov = covariance(course, pose, matches, sum);
+    let cd = cd_from_theta(pose.theta, course.k.scale, course.k.mirror);
+    Numbers { rms, cd, cov }
 }

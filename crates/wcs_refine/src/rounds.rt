@@ -1,24 +1,26 @@
 // The rounds: each fits, clips and searches.
 ghost use Rattle.std.specs.Prelude.{◌≡◌, ◌*◌, ◌/◌, ◌%◌, ◌≤◌, length};
 ghost use Rattle.entry.specs.Entry.{fixed_of};
+ghost use Rattle.fit.specs.Rows.{rows};
+ghost use Rattle.passes.specs.Fit.{fit_passes, passes_of};
+ghost use Rattle.wcs_refine.specs.Round.{most_passes};
 ghost use Rattle.wcs_refine.specs.Associate.{adaptive_px};
-ghost use Rattle.wcs_refine.specs.Cleaning.{stats_of};
-ghost use Rattle.wcs_refine.specs.Keeping.{Ready, Fits, RoundTo, RanTo};
-ghost use Rattle.wcs_refine.specs.Stepping.{posed, stopped, refusal_of, TrimmedTo, RestTo};
+ghost use Rattle.wcs_refine.specs.Keeping.{held_matches, Same, Ready, Fits, RoundTo, RanTo};
+ghost use Rattle.wcs_refine.specs.Stepping.{posed, ending, TrimmedTo, RestTo};
 
-use crate::clipping::{Stats, clip_round, compute_stats};
+use crate::clipping::{clip_round, compute_stats};
+use crate::course::Course;
 use crate::keeping::{Verdict, with_used};
 use crate::searching::{Sought, search};
+use crate::working::Working;
 use entry::{Settings, radius_px};
 use fit::Pose;
-use lists::greater;
-use passes::fit_passes;
+use passes::{Passed, fit_passes};
 use query::Held;
+use refusal::Refusal;
 use residuals::compute_residuals;
 use rounding::{max, min};
-
-// The number of the refusal where the fit leaves the bounds.
-const UNSOUND: usize = 12;
+use stats::MedianSigma;
 
 // The matcher's radius is so many standard deviations, but at least that many pixels.
 const RADIUS_SIGMAS: f64 = 5.0;
@@ -41,11 +43,11 @@ pub(crate) struct Rounded {
     pub comparisons: usize,
 }
 
-// How the loop ended: the state, the number of a refusal or 0, the counts, and the most comparisons of a round.
+// How the loop ended: the state, a refusal if it met one, the counts, and the most comparisons of a round.
 #[derive(Drop)]
 pub(crate) struct Ran {
     pub held: Held,
-    pub refusal: usize,
+    pub refusal: Option<Refusal>,
     pub rounds: usize,
     pub passes: usize,
     pub queries: usize,
@@ -53,14 +55,14 @@ pub(crate) struct Ran {
 }
 
 // The matcher's radius; the call's own where there are no statistics.
-fn adaptive_px(k: Settings, s: Stats) -> f64
-    ensures { result ≡ adaptive_px (fixed_of k) (stats_of s) }
+fn adaptive_px(k: Settings, s: Option<MedianSigma>) -> f64
+    ensures { result ≡ adaptive_px (fixed_of k) s }
 {
     let most = radius_px(k);
-    let Stats::Of(_, sigma) = s else {
+    let Some(m) = s else {
         return most;
     };
-    let wide = RADIUS_SIGMAS * sigma / k.scale;
+    let wide = RADIUS_SIGMAS * m.sigma / k.scale;
     min(max(wide, LEAST_RADIUS_PX), most)
 }
 
@@ -68,125 +70,95 @@ fn adaptive_px(k: Settings, s: Stats) -> f64
 fn pose_at(h: Held, pose: Pose) -> Held
     ensures { result ≡ posed h pose }
 {
-    let boresight = h.boresight;
-    Held {
-        pose,
-        used: h.used,
-        filled: h.filled,
-        boresight,
-        theta: h.theta,
-        cached: h.cached,
-    }
+    Held { pose, ..h }
 }
 
-// Whether the rounds end here.
-fn stops(v: Verdict) -> bool
-    ensures { result ≡ stopped v }
+// How the rounds end here, if they do: converged, or with a refusal.
+#[tactic(auto, unfolding(crate::specs::Stepping::ending))]
+fn ending(v: Verdict) -> Option<Option<Refusal>>
+    ensures { result ≡ ending v }
 {
     match v {
-        Verdict::GoOn => false,
-        Verdict::Done => true,
-        Verdict::Refused(_) => true,
-    }
-}
-
-// The number of a refusal, else 0.
-fn refusal_of(v: Verdict) -> usize
-    ensures { result ≡ refusal_of v }
-{
-    match v {
-        Verdict::GoOn => 0,
-        Verdict::Done => 0,
-        Verdict::Refused(x) => x,
+        Verdict::GoOn => None,
+        Verdict::Done => Some(None),
+        Verdict::Refused(r) => Some(Some(r)),
     }
 }
 
 // Phases B and C: the residuals and their statistics, and the clip. The matches that are left stand at the front of their list.
-fn trim(
-    matches: &mut [usize],
-    floats: &mut [f64],
-    directions: &[f32],
-    spots: &[f64],
-    pose: Pose,
-    k: Settings,
-) -> Trimmed
+fn trim(course: &Course<'_>, pose: Pose, matches: &mut [usize], floats: &mut [f64]) -> Trimmed
     requires { (length matches.old % 2 ≡ 0) × (2 * (length matches.old / 2) ≤ length floats.old) }
-    ensures { TrimmedTo k spots.now directions.now pose matches.old matches.new
-        result }
+    ensures { TrimmedTo course.now.k course.now.spots.now course.now.directions.now pose matches.old
+        matches.new result }
 {
     let n = matches.len() / 2;
-    let in_front = compute_residuals(matches, directions, spots, pose, k.cut, floats);
+    let in_front = compute_residuals(
+        matches,
+        course.directions,
+        course.spots,
+        pose,
+        course.k.cut,
+        floats,
+    );
     let s = compute_stats(floats, n, in_front);
     let used = clip_round(&floats[0..n], matches, s);
-    let radius = adaptive_px(k, s);
+    let radius = adaptive_px(course.k, s);
     Trimmed { used, radius }
 }
 
 // Phases B to D, at the pose that the passes left.
-fn renew(
-    spots: &[f64],
-    directions: &[f32],
-    k: Settings,
-    room: usize,
-    held: Held,
-    numbers: &mut [usize],
-    floats: &mut [f64],
-    distances: &mut [f64],
-    indices: &mut [usize],
-) -> Sought
-    requires { Ready k room spots.now directions.now numbers.old floats.old distances.old indices.old
-        × Fits k room held }
-    ensures { RestTo k room spots.now directions.now held numbers.old
-        numbers.new result }
+fn renew(course: &Course<'_>, held: Held, w: &mut Working<'_>) -> Sought
+    requires { Ready course.now w.old
+        × Fits course.now.k course.now.room held }
+    ensures { Same w.old w.new
+        × RestTo course.now.k course.now.room course.now.spots.now course.now.directions.now held w.old.numbers.now w.new.numbers.now result }
 {
     let to = 2 * held.used;
-    let pose = held.pose;
-    let t = trim(&mut numbers[0..to], floats, directions, spots, pose, k);
+    let t = trim(course, held.pose, &mut w.numbers[0..to], w.floats);
     let kept = with_used(held, t.used);
-    search(
-        spots, directions, k, room, kept, t.radius, numbers, floats, distances, indices,
+    search(course, kept, t.radius, w)
+}
+
+// Phase A: the passes of the fit, on the matches of the state.
+fn fit_held(course: &Course<'_>, held: Held, w: &Working<'_>) -> Passed
+    requires { 2 * held.used ≤ length w.now.numbers.now }
+    ensures { passes_of result
+        ≡ fit_passes most_passes course.now.k.cut
+        (rows course.now.spots.now course.now.directions.now (held_matches held w.now.numbers.now))
+        held.pose }
+{
+    let to = 2 * held.used;
+    fit_passes(
+        &w.numbers[0..to],
+        course.directions,
+        course.spots,
+        held.pose,
+        course.k.cut,
     )
 }
 
 // One round on any state.
-pub(crate) fn one_round(
-    spots: &[f64],
-    directions: &[f32],
-    k: Settings,
-    room: usize,
-    held: Held,
-    numbers: &mut [usize],
-    floats: &mut [f64],
-    distances: &mut [f64],
-    indices: &mut [usize],
-) -> Rounded
-    requires { Ready k room spots.now directions.now numbers.old floats.old distances.old indices.old
-        × Fits k room held }
-    ensures { RoundTo k room spots.now directions.now held numbers.old
-        numbers.new result }
+pub(crate) fn one_round(course: &Course<'_>, held: Held, w: &mut Working<'_>) -> Rounded
+    requires { Ready course.now w.old
+        × Fits course.now.k course.now.room held }
+    ensures { Same w.old w.new
+        × RoundTo course.now.k course.now.room course.now.spots.now course.now.directions.now held w.old.numbers.now w.new.numbers.now result }
 {
-    let to = 2 * held.used;
-    let pose = held.pose;
-    let f = fit_passes(&numbers[0..to], directions, spots, pose, k.cut);
-    if !f.fine {
+    let f = fit_held(course, held, w);
+    let Ok(fitted) = f.end else {
         return Rounded {
             held,
-            verdict: Verdict::Refused(UNSOUND),
+            verdict: Verdict::Refused(Refusal::Unsound),
             passes: f.passes,
             queries: 0,
             comparisons: 0,
         };
-    }
-    let fitted = f.pose;
+    };
     let h = pose_at(held, fitted);
-    let s = renew(
-        spots, directions, k, room, h, numbers, floats, distances, indices,
-    );
-    let after = s.held;
-    let verdict = s.verdict;
+    let s = renew(course, h, w);
     Rounded {
-        held: after,
-        verdict,
+        held: s.held,
+        verdict: s.verdict,
         passes: f.passes,
         queries: s.queries,
         comparisons: s.comparisons,
@@ -194,45 +166,27 @@ pub(crate) fn one_round(
 }
 
 // At most so many rounds, until one converges or is refused.
-pub(crate) fn run(
-    spots: &[f64],
-    directions: &[f32],
-    k: Settings,
-    room: usize,
-    rounds: usize,
-    held: Held,
-    numbers: &mut [usize],
-    floats: &mut [f64],
-    distances: &mut [f64],
-    indices: &mut [usize],
-) -> Ran
-    requires { Ready k room spots.now directions.now numbers.old floats.old distances.old indices.old
-        × Fits k room held × (rounds ≤ 64) }
-    ensures { RanTo k room spots.now directions.now rounds held numbers.old
-        numbers.new result }
+pub(crate) fn run(course: &Course<'_>, rounds: usize, held: Held, w: &mut Working<'_>) -> Ran
+    requires { Ready course.now w.old
+        × Fits course.now.k course.now.room held × (rounds ≤ 64) }
+    ensures { Same w.old w.new
+        × RanTo course.now.k course.now.room course.now.spots.now course.now.directions.now rounds held w.old.numbers.now w.new.numbers.now result }
 {
     let mut h = held;
-    let mut i: usize = 0;
     let mut passes: usize = 0;
     let mut queries: usize = 0;
     let mut comparisons: usize = 0;
-    while i < rounds {
-        let s = one_round(
-            spots, directions, k, room, h, numbers, floats, distances, indices,
-        );
-        let next = s.held;
-        let verdict = s.verdict;
-        h = next;
-        i += 1;
+    for i in 0..rounds {
+        let s = one_round(course, h, w);
+        h = s.held;
         passes += s.passes;
         queries += s.queries;
-        comparisons = greater(comparisons, s.comparisons);
-        if stops(verdict) {
-            let refusal = refusal_of(verdict);
+        comparisons = comparisons.max(s.comparisons);
+        if let Some(refusal) = ending(s.verdict) {
             return Ran {
                 held: h,
                 refusal,
-                rounds: i,
+                rounds: i + 1,
                 passes,
                 queries,
                 comparisons,
@@ -241,8 +195,8 @@ pub(crate) fn run(
     }
     Ran {
         held: h,
-        refusal: 0,
-        rounds: i,
+        refusal: None,
+        rounds,
         passes,
         queries,
         comparisons,

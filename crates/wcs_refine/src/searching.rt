@@ -1,11 +1,11 @@
 // A round's search: predictions, then the matcher.
-ghost use Rattle.std.specs.Prelude.{◌≡◌};
-ghost use Rattle.wcs_refine.specs.Keeping.{Ready, Fits, SearchedTo};
+ghost use Rattle.wcs_refine.specs.Keeping.{Same, Ready, Fits, SearchedTo};
 
 use crate::associating::associate_spots;
+use crate::course::Course;
 use crate::keeping::Verdict;
 use crate::looking::look;
-use entry::Settings;
+use crate::working::Working;
 use query::Held;
 
 #[derive(Drop)]
@@ -16,42 +16,18 @@ pub(crate) struct Sought {
     pub comparisons: usize,
 }
 
-pub(crate) fn search(
-    spots: &[f64],
-    directions: &[f32],
-    k: Settings,
-    room: usize,
-    held: Held,
-    r: f64,
-    numbers: &mut [usize],
-    floats: &mut [f64],
-    distances: &mut [f64],
-    indices: &mut [usize],
-) -> Sought
-    requires { Ready k room spots.now directions.now numbers.old floats.old distances.old indices.old
-        × Fits k room held }
-    ensures { SearchedTo k room spots.now directions.now held r numbers.old
-        numbers.new result }
+pub(crate) fn search(course: &Course<'_>, held: Held, r: f64, w: &mut Working<'_>) -> Sought
+    requires { Ready course.now w.old
+        × Fits course.now.k course.now.room held }
+    ensures { Same w.old w.new
+        × SearchedTo course.now.k course.now.room course.now.spots.now course.now.directions.now held r
+        w.old.numbers.now w.new.numbers.now result }
 {
-    let l = look(directions, k, room, held, numbers, floats);
-    let kept = l.held;
-    let s = associate_spots(
-        spots,
-        k,
-        room,
-        kept,
-        r,
-        l.predicted,
-        numbers,
-        floats,
-        distances,
-        indices,
-    );
-    let after = s.held;
-    let verdict = s.verdict;
+    let l = look(course, held, w.numbers, w.floats);
+    let s = associate_spots(course, l.held, r, l.predicted, w);
     Sought {
-        held: after,
-        verdict,
+        held: s.held,
+        verdict: s.verdict,
         queries: l.queries,
         comparisons: s.comparisons,
     }

@@ -1,4 +1,5 @@
 -- `concluded` clears what more pairs than fit have left, or hands the pairs on to `settle`.
+use Rattle.std.proofs.Common.{refl}
 use Prim.Native.Nat.{◌*◌}
 use native.Mathlib.Omega.{arith}
 use borrow.Author.Tests.{lt-ltb, le-ltb}
@@ -7,22 +8,24 @@ use Rattle.lists.proofs.Clearing.{cleared_within}
 use Rattle.matching.specs.Layout.{concluded}
 use Rattle.matching.proofs.concluded.Goals as goal
 
-pub returns-then-cap-m : goal.returns-then-cap-m
+pub returns-then-c-m : goal.returns-then-c-m
 unfolding concluded
-returns-then-cap-m c =
-    let a = c.args in
-    rw (
-      c.unordered.ensures.0,
-      c.unordered.ensures.1,
-      c.clear_numbers.ensures,
-      cleared_within 0 (2 * a.cap) a.indices.now (omega (arith, c.requires.1)),
-      c.clear_floats.ensures,
-      cleared_within zero64 a.cap a.distances.now (omega (arith, c.requires.0)),
-      lt-ltb a.cap a.m (omega (arith, c.if-cap-m.true)),
+returns-then-c-m c =
+    let a = c.args in (
+      record { cap = refl; distances = refl; indices = refl; distances_long = c.clear.auto.s; indices_long = c.clear-then-c-m.auto.s },
+      rw (
+        c.unordered.ensures.0,
+        c.unordered.ensures.1,
+        c.clear-then-c-m.ensures,
+        cleared_within 0 (2 * a.c.now.cap) a.c.now.indices.now (omega (arith, a.c.now.fits)),
+        c.clear.ensures,
+        cleared_within zero64 a.c.now.cap a.c.now.distances.now (omega (arith, a.c.now.fits)),
+        lt-ltb a.c.now.cap a.m (omega (arith, c.if-c-m.true)),
+      ),
     )
 
 pub returns : goal.returns
 unfolding concluded
 returns c =
     let a = c.args in
-    rw (le-ltb a.cap a.m c.if-cap-m.false) c.settle.ensures
+    (c.settle.ensures.0, rw (le-ltb a.c.now.cap a.m c.if-c-m.false) c.settle.ensures.1)

@@ -5,5 +5,8 @@ use Rattle.pairs.proofs.collect.Goals as goal
 pub returns : goal.returns
 returns c =
     let a = c.args in
-    tried_all a.points.now a.max_points a.predicted.now a.radius_sq a.distances.now a.indices.now
-    c.spots_within-np.result c.room_for-cap.result c.spots_within-np.ensures c.room_for-cap.ensures _ c.collect.ensures
+    let t = c.collect.ensures in (
+      t.same,
+      tried_all a.points.now a.max_points a.predicted.now a.radius_sq a.c.now.distances.now a.c.now.indices.now
+          c.spots_within.result a.c.now.cap c.spots_within.ensures a.c.now.fits _ (rw (c.unwrap_or.ensures, t.same.cap) t.pairs),
+    )

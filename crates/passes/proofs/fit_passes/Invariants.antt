@@ -1,12 +1,9 @@
 use mathlib.Core.Path.{◌≡◌}
-use Prim.Native.Nat.{◌-◌, ◌≤◌}
+use Prim.Native.Nat.{◌-◌}
 use Rattle.fit.specs.Rows.{rows}
 use Rattle.passes.specs.Fit.{fit_passes}
 use Rattle.passes.proofs.PassSteps.{later}
 use Rattle.passes.proofs.fit_passes.Given as goal
 
 abbrev pub invariant-loop-i : goal.invariant-loop-i
-invariant-loop-i l = (l.i ≤ 10) × (later l.i (fit_passes (10 - l.i) l.cut (rows l.spots l.directions l.matches) l.p) ≡ fit_passes 10 l.cut (rows l.spots l.directions l.matches) l.initial.p)
-
-abbrev pub decreases-loop-i : goal.decreases-loop-i
-decreases-loop-i l = 10 - l.i
+invariant-loop-i l = later l.i (fit_passes (10 - l.i) l.cut (rows l.spots l.directions l.matches) l.p) ≡ fit_passes 10 l.cut (rows l.spots l.directions l.matches) l.initial.p

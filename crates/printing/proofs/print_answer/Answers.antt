@@ -1,15 +1,14 @@
-use Rattle.printing.proofs.Pushes.{as_text}
-use Rattle.printing.proofs.AnswerText.{answer_refused, answer_accepted, from_front}
+use Rattle.printing.proofs.AnswerText.{answer_refused, answer_accepted}
 use Rattle.printing.proofs.print_answer.Goals as goal
 
-pub returns-then-r-gt0-clause-value : goal.returns-then-r-gt0-clause-value
-returns-then-r-gt0-clause-value c = (from_front _ (as_text (answer_refused c.args.r c.args.matches.now c.if-r-gt0.true) c.refused.ensures)).0
+pub returns-in-Ok-clause-value : goal.returns-in-Ok-clause-value
+returns-in-Ok-clause-value c = rw (c.in-Ok.is, ← answer_accepted c.in-Ok.r c.args.matches.now) c.print_accepted.ensures.value
 
-pub returns-then-r-gt0-clause-out_after : goal.returns-then-r-gt0-clause-out_after
-returns-then-r-gt0-clause-out_after c = (from_front _ (as_text (answer_refused c.args.r c.args.matches.now c.if-r-gt0.true) c.refused.ensures)).1
+pub returns-in-Ok-clause-out_after : goal.returns-in-Ok-clause-out_after
+returns-in-Ok-clause-out_after c = rw (c.in-Ok.is, ← answer_accepted c.in-Ok.r c.args.matches.now) c.print_accepted.ensures.out_after
 
-pub returns-clause-value : goal.returns-clause-value
-returns-clause-value c = (from_front _ (as_text (answer_accepted c.args.r c.args.matches.now c.if-r-gt0.false) c.accepted.ensures)).0
+pub returns-in-Err-clause-value : goal.returns-in-Err-clause-value
+returns-in-Err-clause-value c = rw (c.in-Err.is, ← answer_refused c.in-Err.refusal c.args.matches.now, ← c.number.ensures) c.print_refusal.ensures.value
 
-pub returns-clause-out_after : goal.returns-clause-out_after
-returns-clause-out_after c = (from_front _ (as_text (answer_accepted c.args.r c.args.matches.now c.if-r-gt0.false) c.accepted.ensures)).1
+pub returns-in-Err-clause-out_after : goal.returns-in-Err-clause-out_after
+returns-in-Err-clause-out_after c = rw (c.in-Err.is, ← answer_refused c.in-Err.refusal c.args.matches.now, ← c.number.ensures) c.print_refusal.ensures.out_after

@@ -5,4 +5,4 @@ use Rattle.response.proofs.call.Goals as goal
 pub returns : goal.returns
 returns c =
     let a = c.args in
-    on_fronts a.h a.spots.now a.matches.now a.directions.now _ c.places-s.ensures c.places-m.ensures c.places-d.ensures c.called_with.ensures
+    on_fronts a.h a.spots.now a.matches.now a.directions.now _ c.wcs_refine.result c.places-s.ensures c.places-m.ensures c.places-d.ensures c.wcs_refine.ensures

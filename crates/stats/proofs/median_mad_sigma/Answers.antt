@@ -11,4 +11,4 @@ pub returns : goal.returns
 returns c =
     summary c.args.vals.now c.select-median.new.v c.deviate.new.vals c.select-sigma.new.v _ _ _ (omega arith)
     (search rules) (search rules) c.select-median.type_inv c.select-sigma.type_inv
-    c.select-median.ensures c.deviate.ensures c.select-sigma.ensures (c.clear_floats.ensures ∙ cleared_whole zero64 _ _ (search rules))
+    c.select-median.ensures c.deviate.ensures c.select-sigma.ensures (c.clear.ensures ∙ cleared_whole zero64 _ _ (search rules))

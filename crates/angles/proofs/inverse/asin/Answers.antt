@@ -14,4 +14,4 @@ unfolding asin
 returns-else-abs c =
     let v = c.args.v in
     rw (← c.abs.ensures, c.if-abs.false)
-    (c.atan.ensures ∙ ap (λ (s : Float). atan (v ⊘ s)) c.sqrt64.ensures)
+    (c.atan.ensures ∙ ap (λ (s : Float). atan (v ⊘ s)) c.sqrt.ensures)

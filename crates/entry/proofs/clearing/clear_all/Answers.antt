@@ -7,8 +7,8 @@ use Rattle.entry.proofs.clearing.clear_all.Goals as goal
 pub returns : goal.returns
 returns c =
     let a = c.args in (
-      c.clear_numbers.ensures ∙ cleared_whole 0 _ a.numbers.now refl,
-      c.clear_floats.ensures ∙ cleared_whole zero64 _ a.floats.now refl,
-      c.clear_floats-2.ensures ∙ cleared_whole zero64 _ a.distances.now refl,
-      c.clear_numbers-2.ensures ∙ cleared_whole 0 _ a.indices.now refl,
+      c.clear.ensures ∙ cleared_whole 0 _ a.numbers.now refl,
+      c.clear-2.ensures ∙ cleared_whole zero64 _ a.floats.now refl,
+      c.clear-3.ensures ∙ cleared_whole zero64 _ a.distances.now refl,
+      c.clear-4.ensures ∙ cleared_whole 0 _ a.indices.now refl,
     )

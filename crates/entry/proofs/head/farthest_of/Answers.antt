@@ -32,4 +32,4 @@ returns c =
     let s = c.args.spots.now in
     let n = c.args.n in
     let l = c.loop-i in
-    far_done s n l.i l.square l.invariant.1 l.invariant.2 c.loop-i-test.false c.sqrt64.ensures
+    far_done s n l.i l.square l.invariant.1 l.invariant.2 c.loop-i-test.false c.sqrt.ensures

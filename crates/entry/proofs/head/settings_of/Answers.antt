@@ -4,4 +4,4 @@ use Rattle.entry.proofs.head.settings_of.Goals as goal
 
 pub returns : goal.returns
 unfolding fixed_from
-returns c = rw (c.farthest_of-far.ensures, c.smaller-capacity.ensures, c.widen-wide.ensures)
+returns c = rw (c.farthest_of-far.ensures, c.min-capacity.ensures, c.widen-wide.ensures)

@@ -1,21 +1,38 @@
--- `fit::normal::summed` meets its contract. The invariant: the sums so far, with the matches that are left, give the whole. Assumes nothing.
 use native.Mathlib.Nat.{sub-zero}
-use native.Mathlib.Omega.{arith}
-use borrow.Author.Rules.{rules}
-use Rattle.fit.specs.Normal.{no_matches}
-use Rattle.fit.specs.Rows.{rows}
+use Rattle.std.proofs.Common.{◌<◌, ◌≤◌, ◌/◌, [], length, ap, ◌∙◌, arith}
+use Rattle.panel.specs.Spots.{spot_at}
+use Rattle.fit.specs.Normal.{with_rows, no_matches}
+use Rattle.fit.specs.Rows.{rows, direction_at}
+use Rattle.fit.proofs.Lookup.{pair_spot, pair_direction}
 use Rattle.fit.proofs.Summing.{sum_next, sum_done}
 use Rattle.fit.proofs.normal.summed.Goals as goal
 
-pub loop-i-init : goal.loop-i-init
+pub loop-spot-init : goal.loop-spot-init
 unfolding rows no_matches
-loop-i-init c = (search rules, rw c.no_matches-s.ensures (omega arith), rw (c.no_matches-s.ensures, sub-zero))
+loop-spot-init g c = record {
+  counts = rw c.no_matches-s.ensures (omega arith);
+  left = λ fitting h. rw (c.no_matches-s.ensures, sub-zero);
+}
 
-pub loop-i-preserved : goal.loop-i-preserved
-loop-i-preserved c =
-    let l = c.loop-i in
-    let s = sum_next _ _ _ _ _ _ l.i l.s _ l.invariant.2 c.loop-i-test.true l.invariant.1 c.spot_at-c.ensures c.direction_at-d.ensures c.with_row-next.ensures in
-    (search rules, s.0, s.1)
+pub loop-spot-preserved : goal.loop-spot-preserved
+loop-spot-preserved g c =
+    let a = c.args in
+    let ms = a.matches.now in
+    let i = c.loop-spot.spot-index in
+    let h : i < length ms / 2 = omega (arith, c.as_chunks.ensures.front_len, c.loop-spot-test.true) in
+    record {
+      counts = omega (arith, c.with_row-s.ensures.counts, c.loop-spot.invariant.counts);
+      left = λ fitting b.
+          sum_next fitting a.w.now a.spots.now a.directions.now ms (length ms / 2) i c.loop-spot.s (with_rows fitting a.w.now no_matches (rows a.spots.now a.directions.now ms)) (c.loop-spot.invariant.left fitting b) h
+          (c.spot_at-c.ensures ∙ ap (spot_at a.spots.now) (pair_spot ms (length ms / 2) i [] c.as_chunks.ensures.front h))
+          (c.direction_at-d.ensures ∙ ap (direction_at a.directions.now) (pair_direction ms (length ms / 2) i [] c.as_chunks.ensures.front h))
+          (c.with_row-s.ensures.is fitting b);
+    }
 
 pub returns : goal.returns
-returns c = sum_done _ _ _ _ _ _ _ _ _ c.loop-i.invariant.2 (search rules)
+returns g c =
+    let a = c.args in
+    let h : length a.matches.now / 2 ≤ c.loop-spot.spot-index = omega (arith, c.as_chunks.ensures.front_len, c.loop-spot-test.false) in
+    λ fitting b.
+    sum_done fitting a.w.now a.spots.now a.directions.now a.matches.now (length a.matches.now / 2) c.loop-spot.spot-index c.loop-spot.s
+    (with_rows fitting a.w.now no_matches (rows a.spots.now a.directions.now a.matches.now)) (c.loop-spot.invariant.left fitting b) h

@@ -1,12 +1,13 @@
--- `fit::normal::with_row` meets its contract: the plane point, or that there is none, picks the definition's case. Assumes nothing.
-use Rattle.fit.specs.Rows.{view_at}
-use Rattle.fit.proofs.Summing.{in_front, behind}
+-- The plane point, or that there is none, picks the definition's case.
+use Rattle.std.proofs.Common.{sym, ◌∙◌}
+use Rattle.fit.specs.Normal.{with_row, with_match}
 use Rattle.fit.proofs.normal.with_row.Goals as goal
 
-pub returns-in_default : goal.returns-in_default
-returns-in_default c = let a = c.args in
-    behind a.fitting (view_at a.basis a.t) a.s a.c a.d c.tan_project_vec-p.ensures c.in_default.is
+pub returns-in_default-clause-is : goal.returns-in_default-clause-is
+unfolding with_row with_match
+returns-in_default-clause-is g c = λ fitting h. rw (← c.in_default.ensures)
 
-pub returns : goal.returns
-returns c = let a = c.args in
-    in_front a.fitting (view_at a.basis a.t) a.s a.c a.d c.tan_project_vec-p.ensures c.in-At.is (c.right_side-e.ensures a.basis) c.accumulate_normal_equations-sums.ensures
+pub returns-clause-is : goal.returns-clause-is
+unfolding with_row with_match
+returns-clause-is g c = λ fitting h.
+    rw (sym c.tan_project_vec.ensures ∙ c.in-Some.is, ← h _ _ _ c.brings-r.ensures, c.accumulate_normal_equations.ensures)

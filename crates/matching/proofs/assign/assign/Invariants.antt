@@ -1,10 +1,9 @@
 -- What was taken, with what is still to be offered, is what it is to be in the end.
-use Rattle.std.proofs.Common.{◌≡◌, ◌+◌, ◌-◌, ◌≤◌, length}
+use Rattle.std.proofs.Common.{◌≡◌, ◌+◌, ◌-◌, ◌≤◌}
 use Rattle.matching.specs.Layout.{taking, offers}
 use Rattle.matching.proofs.assign.assign.Given as goal
 
-abbrev pub invariant-loop-i : goal.invariant-loop-i
-invariant-loop-i l = (length l.work ≡ length l.initial.work) × (l.i ≤ l.m) × (l.t ≤ l.i) × (offers l.np l.marked l.indices (l.from + l.i) (l.m - l.i) (taking l.t l.work) ≡ offers l.np l.marked l.indices l.from l.m (taking 0 l.initial.work))
-
-abbrev pub decreases-loop-i : goal.decreases-loop-i
-decreases-loop-i l = l.m - l.i
+abbrev pub invariant-loop-k : goal.invariant-loop-k
+invariant-loop-k l =
+    (l.t ≤ l.k - l.from)
+    × (offers l.np l.marked l.c.indices.now l.k (l.from + l.m - l.k) (taking l.t l.work) ≡ offers l.np l.marked l.c.indices.now l.from l.m (taking 0 l.initial.work))

@@ -25,7 +25,7 @@ module _ (np marked t : ℕ) (w : List ℕ) (a b : ℕ) where
 pub returns-then-number_at-eq0-2 : goal.returns-then-number_at-eq0-2
 returns-then-number_at-eq0-2 c = (
   omega arith,
-  rw (c.put_number-then-number_at-eq0-2-3.ensures, c.put_number-then-number_at-eq0-2-2.ensures, c.put_number-then-number_at-eq0-2.ensures, c.put_number.ensures)
+  rw (c.put-then-number_at-eq0-2-3.ensures, c.put-then-number_at-eq0-2-2.ensures, c.put-then-number_at-eq0-2.ensures, c.put.ensures)
       (both_free c.args.np c.args.marked c.args.t c.args.work.now c.args.spot c.args.prediction
       (sym c.number_at.ensures ∙ c.if-number_at-eq0.true) (sym c.number_at-then-number_at-eq0.ensures ∙ c.if-number_at-eq0-2.true)),
 )

@@ -1,14 +1,12 @@
 -- What stands there, with the pairs that are to come, is what it is to be in the end.
-use Rattle.std.proofs.Common.{◌≡◌, ◌-◌, ◌≤◌, length}
+use Rattle.std.proofs.Common.{◌-◌}
 use Rattle.pairs.specs.Pairs.{pairs_from}
-use Rattle.pairs.specs.Candidates.{found, pushed}
+use Rattle.pairs.specs.Candidates.{pushed}
+use Rattle.pairs.specs.Lent.{found_in}
+use Rattle.pairs.proofs.Pushing.{Going}
 use Rattle.pairs.proofs.pairs.collect.Given as goal
 
 abbrev pub invariant-loop-i : goal.invariant-loop-i
 invariant-loop-i l =
-    (length l.distances ≡ length l.fn.distances) × (length l.indices ≡ length l.fn.indices) × (l.i ≤ l.np) × (l.m ≤ l.cap)
-    × (pushed l.cap (found l.m l.distances l.indices) (pairs_from l.radius_sq l.points l.predicted l.i (l.np - l.i))
-    ≡ pushed l.cap (found 0 l.fn.distances l.fn.indices) (pairs_from l.radius_sq l.points l.predicted 0 l.np))
-
-abbrev pub decreases-loop-i : goal.decreases-loop-i
-decreases-loop-i l = l.np - l.i
+    Going l.fn.c l.c l.m (pairs_from l.s.radius_sq l.s.points.now l.s.predicted.now l.i (l.s.np - l.i))
+    (pushed l.fn.c.cap (found_in 0 l.fn.c) (pairs_from l.s.radius_sq l.s.points.now l.s.predicted.now 0 l.s.np))

@@ -1,14 +1,12 @@
 -- What stands there, with the pairs that are to come, is what it is to be in the end.
-use Rattle.std.proofs.Common.{◌≡◌, ◌-◌, ◌≤◌, length}
-use Rattle.pairs.specs.Pairs.{pairs_of}
-use Rattle.pairs.specs.Candidates.{point, found, pushed}
+use Rattle.std.proofs.Common.{◌-◌}
+use Rattle.pairs.specs.Pairs.{point_at, pairs_of}
+use Rattle.pairs.specs.Candidates.{pushed}
+use Rattle.pairs.specs.Lent.{found_in}
+use Rattle.pairs.proofs.Pushing.{Going}
 use Rattle.pairs.proofs.pairs.collect_spot.Given as goal
 
 abbrev pub invariant-loop-j : goal.invariant-loop-j
 invariant-loop-j l =
-    (length l.distances ≡ length l.fn.distances) × (length l.indices ≡ length l.fn.indices) × (l.j ≤ l.n) × (l.k ≤ l.cap)
-    × (pushed l.cap (found l.k l.distances l.indices) (pairs_of l.radius_sq l.predicted l.spot (point l.x l.y) l.j (l.n - l.j))
-    ≡ pushed l.cap (found l.m l.fn.distances l.fn.indices) (pairs_of l.radius_sq l.predicted l.spot (point l.x l.y) 0 l.n))
-
-abbrev pub decreases-loop-j : goal.decreases-loop-j
-decreases-loop-j l = l.n - l.j
+    Going l.fn.c l.c l.k (pairs_of l.s.radius_sq l.s.predicted.now l.i (point_at l.s.points.now l.i) l.j (l.n - l.j))
+    (pushed l.fn.c.cap (found_in l.m l.fn.c) (pairs_of l.s.radius_sq l.s.predicted.now l.i (point_at l.s.points.now l.i) 0 l.n))

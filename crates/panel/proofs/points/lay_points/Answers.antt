@@ -5,8 +5,8 @@ use Rattle.panel.proofs.points.lay_points.Goals as goal
 
 pub loop-i-init : goal.loop-i-init
 unfolding coordinates
-loop-i-init c = (search rules, refl, refl)
+loop-i-init c = (refl, refl)
 
 pub loop-i-preserved : goal.loop-i-preserved
 loop-i-preserved c =
-    (search rules, search rules, lay_next c.args.spots.now c.args.points.now c.loop-i.i c.loop-i.invariant.2 (search rules) c.spot_at-s.ensures)
+    (search rules, lay_next c.args.spots.now c.args.points.now c.loop-i.i c.loop-i.invariant.1 (search rules) c.spot_at-s.ensures)

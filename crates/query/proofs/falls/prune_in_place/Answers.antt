@@ -44,7 +44,7 @@ ended f n o m k i low u v fits w₀ =
 pub loop-i-init : goal.loop-i-init
 loop-i-init c =
     let a = c.args in
-    (search rules, search rules, rw (take-length a.listed.now) (begin 0 _ _))
+    (search rules, rw (take-length a.listed.now) (begin 0 _ _))
 
 pub loop-i-preserved : goal.loop-i-preserved
 loop-i-preserved c =
@@ -55,8 +55,8 @@ loop-i-preserved c =
     let o = a.listed.now in
     let fits : length o ≤ length o = omega arith in
     elim c.if-f.branch [
-      | then-f w ↦ rw (w.listed-is, w.k-is) (omega arith, omega arith, took f (length o) o l.listed l.k l.i l.invariant.1 h fits l.invariant.2 c.fall_at-f.ensures w.if-f.true)
-      | else-f w ↦ rw (w.listed-is, w.k-is) (omega arith, omega arith, passed f (length o) o l.listed l.k l.i l.invariant.1 h fits l.invariant.2 c.fall_at-f.ensures w.if-f.false)
+      | then-f w ↦ rw (w.listed-is, w.k-is) (omega arith, took f (length o) o l.listed l.k l.i l.invariant.0 h fits l.invariant.1 c.fall_at-f.ensures w.if-f.true)
+      | else-f w ↦ rw (w.listed-is, w.k-is) (omega arith, passed f (length o) o l.listed l.k l.i l.invariant.0 h fits l.invariant.1 c.fall_at-f.ensures w.if-f.false)
     ]
 
 pub returns : goal.returns
@@ -65,4 +65,4 @@ returns c =
     let l = c.loop-i in
     let o = a.listed.now in
     let fits : length o ≤ length o = omega arith in
-    ended (falling a.scale a.cut a.keep_r a.directions.now a.rows) (length o) o l.listed l.k l.i l.invariant.1 l.invariant.0 (search rules) fits l.invariant.2
+    ended (falling a.scale a.cut a.keep_r a.directions.now a.rows) (length o) o l.listed l.k l.i l.invariant.0 (omega arith) (search rules) fits l.invariant.1

@@ -4,8 +4,8 @@ use Rattle.query.proofs.scan.axis32.Goals as goal
 
 pub returns-then-n : goal.returns-then-n
 unfolding axis32 lib.Ieee.div lib.Ieee.lt lib.Ieee.of_bits
-returns-then-n c = rw (← c.narrow-x.ensures, ← c.narrow-y.ensures, ← c.narrow-z.ensures, ← c.dot32.ensures, ← c.sqrt32-n.ensures, c.if-n.true)
+returns-then-n c = rw (← c.narrow-x.ensures, ← c.narrow-y.ensures, ← c.narrow-z.ensures, ← c.dot32.ensures, ← c.sqrt-n.ensures, c.if-n.true)
 
-pub returns : goal.returns
+pub returns-else-n : goal.returns-else-n
 unfolding axis32 lib.Ieee.lt lib.Ieee.of_bits
-returns c = rw (← c.narrow-x.ensures, ← c.narrow-y.ensures, ← c.narrow-z.ensures, ← c.dot32.ensures, ← c.sqrt32-n.ensures, c.if-n.false)
+returns-else-n c = rw (← c.narrow-x.ensures, ← c.narrow-y.ensures, ← c.narrow-z.ensures, ← c.dot32.ensures, ← c.sqrt-n.ensures, c.if-n.false)

@@ -18,22 +18,22 @@ use Rattle.query.proofs.scan.scan_into.Goals.{then-least-d, else-least-d}
 -- what the loop keeps: with j directions looked at, k of them are listed in m, which was o
 abbrev Stands : List Float → Float → List ℕ → ℕ → Float → Float → Float → List ℕ → ℕ → ℕ → Type 0
 Stands ds least o n x y z m k j =
-    (j ≤ n) × (k ≤ j) × (n ≤ length o) × (3 * n ≤ length ds)
+    (k ≤ j) × (n ≤ length o) × (3 * n ≤ length ds)
     × Writing 0 k m o (scanned ds (x ∷ y ∷ z ∷ []) least j (n - j)) (scanned ds (x ∷ y ∷ z ∷ []) least 0 n)
 
 module _ (ds : List Float) (least : Float) (o : List ℕ) (n : ℕ) (x y z : Float) (m : List ℕ) (k j : ℕ) (inv : Stands ds least o n x y z m k j) where
   took : j < n → le least (dot32 (x ∷ y ∷ z ∷ []) (direction_at ds j)) ≡ true → Stands ds least o n x y z (set m k j) (k + 1) (j + 1)
   took h b =
       let w : Writing 0 k m o (j ∷ scanned ds (x ∷ y ∷ z ∷ []) least (j + 1) (n - (j + 1))) (scanned ds (x ∷ y ∷ z ∷ []) least 0 n) =
-      onward (scan_next ds (x ∷ y ∷ z ∷ []) least n j h b) inv.4 in
-      (omega arith, omega arith, inv.2, inv.3, front_push k m o j w (omega (arith, w.long)))
+      onward (scan_next ds (x ∷ y ∷ z ∷ []) least n j h b) inv.3 in
+      (omega arith, inv.1, inv.2, front_push k m o j w (omega (arith, w.long)))
 
   passed : j < n → le least (dot32 (x ∷ y ∷ z ∷ []) (direction_at ds j)) ≡ false → Stands ds least o n x y z m k (j + 1)
-  passed h b = (omega arith, omega arith, inv.2, inv.3, onward (scan_not ds (x ∷ y ∷ z ∷ []) least n j h b) inv.4)
+  passed h b = (omega arith, inv.1, inv.2, onward (scan_not ds (x ∷ y ∷ z ∷ []) least n j h b) inv.3)
 
-  ended : n ≤ j → Fronted (scanned ds (x ∷ y ∷ z ∷ []) least 0 n) o m k
-  ended h =
-      let w : Writing 0 k m o [] (scanned ds (x ∷ y ∷ z ∷ []) least 0 n) = onward (scan_none ds (x ∷ y ∷ z ∷ []) least n j h) inv.4 in
+  ended : j ≤ n → n ≤ j → Fronted (scanned ds (x ∷ y ∷ z ∷ []) least 0 n) o m k
+  ended low h =
+      let w : Writing 0 k m o [] (scanned ds (x ∷ y ∷ z ∷ []) least 0 n) = onward (scan_none ds (x ∷ y ∷ z ∷ []) least n j h) inv.3 in
       let r : k ≤ length m = omega (arith, w.long) in
       record {
         count = front_many k m o w r;
@@ -48,15 +48,15 @@ by_parts ds axis least j (suc n) = ap (λ (more : List ℕ). cond (le least (dot
 
 pub loop-j-init : goal.loop-j-init
 loop-j-init c =
-    let n = c.smaller-n.result in
+    let n = c.min-n.result in
     let e : n - 0 ≡ n = omega arith in
-    (search rules, search rules, omega (arith, c.smaller-n.ensures), omega (arith, c.smaller-n.ensures), rw e (begin 0 _ _))
+    (search rules, omega (arith, c.min-n.ensures), omega (arith, c.min-n.ensures), rw e (begin 0 _ _))
 
 pub loop-j-preserved : goal.loop-j-preserved
 unfolding dot32 direction_at
 loop-j-preserved c =
     let a = c.args in
-    let n = c.smaller-n.result in
+    let n = c.min-n.result in
     let l = c.loop-j in
     let h = c.loop-j-test.true in
     elim c.if-least-d.branch [
@@ -67,7 +67,7 @@ loop-j-preserved c =
 pub returns : goal.returns
 returns c =
     let a = c.args in
-    let n = c.smaller-n.result in
+    let n = c.min-n.result in
     let l = c.loop-j in
-    rw (← c.smaller-n.ensures, ← by_parts a.directions.now a.axis a.least 0 n)
-    (ended a.directions.now a.least a.out.now n (at a.axis 0) (at a.axis 1) (at a.axis 2) l.out l.k l.j l.invariant (search rules))
+    rw (← c.min-n.ensures, ← by_parts a.directions.now a.axis a.least 0 n)
+    (ended a.directions.now a.least a.out.now n (at a.axis 0) (at a.axis 1) (at a.axis 2) l.out l.k l.j l.invariant l.auto.j-end (search rules))

@@ -6,7 +6,4 @@ use Rattle.query.proofs.Listed.{Writing}
 use Rattle.query.proofs.scan.scan_into.Given as goal
 
 abbrev pub invariant-loop-j : goal.invariant-loop-j
-invariant-loop-j l = (l.j ≤ l.n) × (l.k ≤ l.j) × (l.n ≤ length l.initial.out) × (3 * l.n ≤ length l.directions) × Writing 0 l.k l.out l.initial.out (scanned l.directions (l.x ∷ l.y ∷ l.z ∷ []) l.least l.j (l.n - l.j)) (scanned l.directions (l.x ∷ l.y ∷ l.z ∷ []) l.least 0 l.n)
-
-abbrev pub decreases-loop-j : goal.decreases-loop-j
-decreases-loop-j l = l.n - l.j
+invariant-loop-j l = (l.k ≤ l.j) × (l.n ≤ length l.initial.out) × (3 * l.n ≤ length l.directions) × Writing 0 l.k l.out l.initial.out (scanned l.directions (l.x ∷ l.y ∷ l.z ∷ []) l.least l.j (l.n - l.j)) (scanned l.directions (l.x ∷ l.y ∷ l.z ∷ []) l.least 0 l.n)

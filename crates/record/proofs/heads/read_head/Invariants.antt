@@ -1,11 +1,6 @@
-use Rattle.std.proofs.Common.{◌-◌}
-use Rattle.record.specs.Head.{head_size}
 use Rattle.record.proofs.HeadSteps.{Heading}
 use Rattle.record.proofs.heads.read_head.Given as goal
 
 -- The numbers read so far stand before what is left to read.
 abbrev pub invariant-loop-i : goal.invariant-loop-i
-invariant-loop-i l = Heading l.bytes l.h l.to l.i
-
-abbrev pub decreases-loop-i : goal.decreases-loop-i
-decreases-loop-i l = head_size - l.i
+invariant-loop-i l = Heading l.bytes l.numbers l.rest l.i

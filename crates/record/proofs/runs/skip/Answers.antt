@@ -1,45 +1,36 @@
 use Rattle.std.proofs.Common.{arith, sym, []}
-use Rattle.record.specs.Passes.{answered}
-use Rattle.record.proofs.RunSteps.{passing_first, passed_all, passing_on, passing_short, passing_wrong, taken_at}
+use Rattle.record.specs.Reading.{run}
+use Rattle.record.specs.Passes.{answered, Over}
+use Rattle.record.proofs.RunSteps.{hands_on, passing_first, passed_all, passing_on, passing_refused, taken}
 use Rattle.record.proofs.runs.skip.Goals as goal
 
-pub loop-i-init : goal.loop-i-init
-loop-i-init c = (omega arith, λ bits e. ([], passing_first bits c.args.count c.args.bytes.now c.args.at))
+pub loop-init : goal.loop-init
+loop-init c = λ bits e. ([], passing_first bits c.args.count c.args.bytes.now)
 
-pub overflow_add-to : goal.overflow_add-to
-overflow_add-to c =
+pub slice_bounds-rest-count : goal.slice_bounds-rest-count
+slice_bounds-rest-count c =
     let g = c.requires in
-    omega (arith, taken_at g.bits c.args.bytes.now c.loop-i.to (sym (c.in-Got.ensures g.bits g.is)))
+    omega (arith, (taken g.bits _ (sym (c.in_ok-n.ensures g.bits g.is))).inside)
 
-pub returns-in-Short : goal.returns-in-Short
+pub slice_bounds-rest-start : goal.slice_bounds-rest-start
+slice_bounds-rest-start c =
+    let g = c.requires in
+    omega (arith, (taken g.bits _ (sym (c.in_ok-n.ensures g.bits g.is))).inside)
+
+pub returns-in_err-n : goal.returns-in_err-n
 unfolding answered
-returns-in-Short c =
-    let a = c.args in
-    let l = c.loop-i in
-    λ bits e. record {
-      passed = [];
-      is = passing_short bits a.count a.bytes.now a.at l.to l.i (l.invariant.1 bits e).0 (l.invariant.1 bits e).1 c.loop-i-test.true (sym (c.in-Short.ensures bits e));
-    }
+returns-in_err-n c =
+    let l = c.loop in
+    λ bits e. hands_on (Over (run c.args.count bits c.args.bytes.now)) _ c.from_residual.ensures.1
+    record { passed = []; is = passing_refused bits _ _ _ l.counter _ (l.invariant bits e).1 c.loop-test.true (sym (c.in_err-n.ensures bits e)) }
 
-pub returns-in-Wrong : goal.returns-in-Wrong
-unfolding answered
-returns-in-Wrong c =
-    let a = c.args in
-    let l = c.loop-i in
-    λ bits e. record {
-      passed = [];
-      is = passing_wrong bits a.count a.bytes.now a.at l.to l.i (l.invariant.1 bits e).0 (l.invariant.1 bits e).1 c.loop-i-test.true (sym (c.in-Wrong.ensures bits e));
-    }
-
-pub loop-i-preserved : goal.loop-i-preserved
-loop-i-preserved c =
-    let a = c.args in
-    let l = c.loop-i in
-    (omega arith, λ bits e. (_, passing_on bits a.count a.bytes.now a.at l.to l.i (l.invariant.1 bits e).0 (l.invariant.1 bits e).1 c.loop-i-test.true (sym (c.in-Got.ensures bits e))))
+pub loop-preserved : goal.loop-preserved
+loop-preserved c =
+    let l = c.loop in
+    λ bits e. (_, passing_on bits _ _ _ l.counter _ (l.invariant bits e).1 c.loop-test.true (sym (c.in_ok-n.ensures bits e)))
 
 pub returns : goal.returns
 unfolding answered
 returns c =
-    let a = c.args in
-    let l = c.loop-i in
-    λ bits e. record { passed = (l.invariant.1 bits e).0; is = passed_all bits a.count a.bytes.now a.at l.to l.i (l.invariant.1 bits e).0 (l.invariant.1 bits e).1 c.loop-i-test.false }
+    let l = c.loop in
+    λ bits e. record { passed = (l.invariant bits e).0; is = passed_all bits _ _ _ l.counter _ (l.invariant bits e).1 c.loop-test.false }

@@ -5,7 +5,7 @@ use mathlib.Core.Bool.{true, false}
 use mathlib.Core.List.{List, ◌++◌, append_assoc, append-nil}
 use Prim.Native.Nat.{ℕ, ◌+◌, ◌*◌, ◌/◌, ◌-◌, ◌≤◌, ◌<◌}
 use native.Mathlib.Omega.{arith}
-use lib.Ieee.{Float, nan}
+use lib.Ieee.{Float, nan, div, of_bits}
 use lib.ListN.{length, get_or, set, take, drop, length-set}
 use Rattle.residuals.specs.Residual.{keeps, kept_from}
 use Rattle.residuals.proofs.Kept.{tested, kept_next, kept_not, kept_none, unwritten, pair_front, pair_back, front_done}
@@ -16,7 +16,7 @@ use Rattle.residuals.proofs.clipping.compact.Goals.{then-keeps, else-keeps}
 -- what the loop keeps, of the residuals rs and the matches o: with i of them passed and k places kept, m is as it stands
 abbrev Stands : Float → List Float → List ℕ → List ℕ → ℕ → ℕ → Type 0
 Stands t rs o m k i =
-    (length m ≡ length o) × (i ≤ length o / 2) × (k ≤ 2 * i) × (drop k m ≡ drop k o)
+    (length m ≡ length o) × (k ≤ 2 * i) × (drop k m ≡ drop k o)
     × (take k m ++ kept_from t rs o i (length o / 2 - i) ≡ kept_from t rs o 0 (length o / 2))
 
 -- a turn that keeps the match, and one that does not
@@ -24,36 +24,36 @@ module _ (t : Float) (rs : List Float) (o m : List ℕ) (k i : ℕ) (inv : Stand
   taken : keeps t (get_or rs i nan) ≡ true
       → Stands t rs o (set (set m k (get_or m (2 * i) 0)) (k + 1) (get_or m (2 * i + 1) 0)) (k + 2) (i + 1)
   taken e =
-      let x : get_or m (2 * i) 0 ≡ get_or o (2 * i) 0 = unwritten m o k inv.3 (2 * i) (omega arith) in
-      let y : get_or m (2 * i + 1) 0 ≡ get_or o (2 * i + 1) 0 = unwritten m o k inv.3 (2 * i + 1) (omega arith) in
+      let x : get_or m (2 * i) 0 ≡ get_or o (2 * i) 0 = unwritten m o k inv.2 (2 * i) (omega arith) in
+      let y : get_or m (2 * i + 1) 0 ≡ get_or o (2 * i + 1) 0 = unwritten m o k inv.2 (2 * i + 1) (omega arith) in
       let room : k + 1 < length m = omega arith in (
         simp length-set inv.0,
         omega arith,
-        omega arith,
-        pair_back m o k inv.3 (get_or m (2 * i) 0) (get_or m (2 * i + 1) 0),
-        rw (pair_front m o k inv.3 (get_or m (2 * i) 0) (get_or m (2 * i + 1) 0) room, append_assoc, x, y, ← kept_next t rs o (length o / 2) i h e) inv.4,
+        pair_back m o k inv.2 (get_or m (2 * i) 0) (get_or m (2 * i + 1) 0),
+        rw (pair_front m o k inv.2 (get_or m (2 * i) 0) (get_or m (2 * i + 1) 0) room, append_assoc, x, y, ← kept_next t rs o (length o / 2) i h e) inv.3,
       )
 
   passed : keeps t (get_or rs i nan) ≡ false → Stands t rs o m k (i + 1)
-  passed e = (inv.0, omega arith, omega arith, inv.3, rw (← kept_not t rs o (length o / 2) i h e) inv.4)
+  passed e = (inv.0, omega arith, inv.2, rw (← kept_not t rs o (length o / 2) i h e) inv.3)
 
 -- after the last one
-done : (t : Float) (rs : List Float) (o m : List ℕ) (k i : ℕ) → Stands t rs o m k i → length o / 2 ≤ i
+done : (t : Float) (rs : List Float) (o m : List ℕ) (k i : ℕ) → Stands t rs o m k i → i ≤ length o / 2 → length o / 2 ≤ i
     → m ≡ kept_from t rs o 0 (length o / 2) ++ drop (length (kept_from t rs o 0 (length o / 2))) o
-done t rs o m k i inv h =
-    front_done m o k inv.3 (omega arith)
-    (sym (append-nil (take k m)) ∙ ap (λ (z : List ℕ). take k m ++ z) (sym (kept_none t rs o (length o / 2) i h)) ∙ inv.4)
+done t rs o m k i inv b h =
+    front_done m o k inv.2 (omega arith)
+    (sym (append-nil (take k m)) ∙ ap (λ (z : List ℕ). take k m ++ z) (sym (kept_none t rs o (length o / 2) i h)) ∙ inv.3)
 
 pub loop-i-init : goal.loop-i-init
 loop-i-init c =
     let a = c.args in
     let e : length a.matches.now / 2 - 0 ≡ length a.matches.now / 2 = omega arith in
-    (search rules, search rules, search rules, refl, rw e)
+    (search rules, search rules, refl, rw e)
 
 pub bounds-matches-k-then-keeps : goal.bounds-matches-k-then-keeps
 bounds-matches-k-then-keeps c = simp length-set (omega arith)
 
 pub loop-i-preserved : goal.loop-i-preserved
+unfolding div of_bits
 loop-i-preserved c =
     let a = c.args in
     let l = c.loop-i in
@@ -62,12 +62,12 @@ loop-i-preserved c =
     let rs = a.residuals.now in
     let o = a.matches.now in
     elim c.if-keeps.branch [
-      | then-keeps w ↦ rw (w.matches-is, w.k-is) (taken t rs o l.matches l.k l.i l.invariant h (tested t rs l.i c.float_at.ensures c.keeps.ensures w.if-keeps.true))
-      | else-keeps w ↦ rw (w.matches-is, w.k-is) (passed t rs o l.matches l.k l.i l.invariant h (tested t rs l.i c.float_at.ensures c.keeps.ensures w.if-keeps.false))
+      | then-keeps w ↦ rw (w.matches-is, w.k-is) (taken t rs o l.matches l.k l.i l.invariant h (tested t rs l.i c.at.ensures c.keeps.ensures w.if-keeps.true))
+      | else-keeps w ↦ rw (w.matches-is, w.k-is) (passed t rs o l.matches l.k l.i l.invariant h (tested t rs l.i c.at.ensures c.keeps.ensures w.if-keeps.false))
     ]
 
 pub returns : goal.returns
 returns c =
     let a = c.args in
     let l = c.loop-i in
-    done a.threshold a.residuals.now a.matches.now l.matches l.k l.i l.invariant (search rules)
+    done a.threshold a.residuals.now a.matches.now l.matches l.k l.i l.invariant (omega arith) (omega arith)

@@ -6,7 +6,4 @@ use Rattle.residuals.specs.Residual.{kept_from}
 use Rattle.residuals.proofs.clipping.count_kept.Given as goal
 
 abbrev pub invariant-loop-i : goal.invariant-loop-i
-invariant-loop-i l = (l.i ≤ l.n) × (l.k ≤ l.i) × ((ms : List ℕ) → 2 * l.k + length (kept_from l.threshold l.residuals ms l.i (l.n - l.i)) ≡ length (kept_from l.threshold l.residuals ms 0 l.n))
-
-abbrev pub decreases-loop-i : goal.decreases-loop-i
-decreases-loop-i l = l.n - l.i
+invariant-loop-i l = (l.k ≤ l.i) × ((ms : List ℕ) → 2 * l.k + length (kept_from l.threshold l.residuals ms l.i (l.n - l.i)) ≡ length (kept_from l.threshold l.residuals ms 0 l.n))

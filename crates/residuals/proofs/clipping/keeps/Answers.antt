@@ -1,11 +1,12 @@
--- `residuals::clipping::keeps` meets its contract: the mark is never kept. Assumes nothing.
+-- The mark is never kept.
+use lib.Ieee.{ne}
 use Rattle.residuals.specs.Residual.{keeps}
 use Rattle.residuals.proofs.clipping.keeps.Goals as goal
 
 pub returns-then-x : goal.returns-then-x
-unfolding keeps
+unfolding keeps ne
 returns-then-x c = rw c.if-x.true
 
-pub returns : goal.returns
-unfolding keeps
-returns c = rw c.if-x.false
+pub returns-else-x : goal.returns-else-x
+unfolding keeps ne
+returns-else-x c = rw c.if-x.false

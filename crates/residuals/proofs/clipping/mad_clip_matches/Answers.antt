@@ -1,7 +1,8 @@
--- `residuals::clipping::mad_clip_matches` meets its contract: the two tests on the number pick the definition's case. Assumes nothing.
+-- The two tests on the number pick the definition's case.
 use Rattle.residuals.specs.Residual.{kept, threshold_of}
 use Rattle.residuals.proofs.Kept.{clip_some, clip_all, clip_few}
 use Rattle.residuals.proofs.clipping.mad_clip_matches.Goals as goal
+use Rattle.residuals.proofs.clipping.mad_clip_matches.Goals.{else-k-n-via-then-k-n+else-k-ge-FEWEST, else-k-n-via-else-k-n}
 
 pub returns-then-k-ge-FEWEST : goal.returns-then-k-ge-FEWEST
 unfolding kept threshold_of
@@ -9,14 +10,13 @@ returns-then-k-ge-FEWEST c =
     let a = c.args in
     clip_some a.residuals.now a.matches.now a.median a.sigma c.count_kept-k.result (c.count_kept-k.ensures.1 a.matches.now) c.if-k-n.true c.if-k-ge-FEWEST.true c.compact.ensures
 
-pub returns-else-k-ge-FEWEST : goal.returns-else-k-ge-FEWEST
+pub returns : goal.returns
 unfolding kept threshold_of
-returns-else-k-ge-FEWEST c =
+returns c =
     let a = c.args in
-    clip_few a.residuals.now a.matches.now a.median a.sigma c.count_kept-k.result (c.count_kept-k.ensures.1 a.matches.now) c.if-k-n.true c.if-k-ge-FEWEST.false
-
-pub returns-else-k-n : goal.returns-else-k-n
-unfolding kept threshold_of
-returns-else-k-n c =
-    let a = c.args in
-    clip_all a.residuals.now a.matches.now a.median a.sigma c.count_kept-k.result (c.count_kept-k.ensures.1 a.matches.now) c.if-k-n.false
+    let k = c.count_kept-k.result in
+    let e = c.count_kept-k.ensures.1 a.matches.now in
+    elim c.else-k-n.branch [
+      | else-k-n-via-then-k-n+else-k-ge-FEWEST w ↦ clip_few a.residuals.now a.matches.now a.median a.sigma k e w.if-k-n.true w.if-k-ge-FEWEST.false
+      | else-k-n-via-else-k-n w ↦ clip_all a.residuals.now a.matches.now a.median a.sigma k e w.if-k-n.false
+    ]

@@ -13,7 +13,7 @@ use Rattle.residuals.proofs.residual.gather.Goals.{then-x, else-x}
 
 pub loop-i-init : goal.loop-i-init
 unfolding in_front
-loop-i-init c = (search rules, search rules, search rules, refl, front_none c.args.l.now c.args.n)
+loop-i-init c = (search rules, search rules, refl, front_none c.args.l.now c.args.n)
 
 pub loop-i-preserved : goal.loop-i-preserved
 unfolding ne
@@ -24,15 +24,15 @@ loop-i-preserved c =
     let t = eq (get_or v.l v.i nan) minus_one in
     elim c.if-x.branch [
       | then-x w ↦
-          let s = copied a.l.now v.l a.n v.k v.i c.requires h v.invariant.3 v.invariant.4 (omega arith) (not-true t w.if-x.true) in
-          rw (w.l-is, w.k-is) (search rules, omega arith, simp length-set v.invariant.2, s.0, s.1)
+          let s = copied a.l.now v.l a.n v.k v.i c.requires h v.invariant.2 v.invariant.3 (omega arith) (not-true t w.if-x.true) in
+          rw (w.l-is, w.k-is) (omega arith, simp length-set v.invariant.1, s.0, s.1)
       | else-x w ↦
-          let s = passed a.l.now v.l a.n v.k v.i c.requires h v.invariant.3 v.invariant.4 (not-false t w.if-x.false) in
-          rw (w.l-is, w.k-is) (search rules, omega arith, v.invariant.2, s.0, s.1)
+          let s = passed a.l.now v.l a.n v.k v.i c.requires h v.invariant.2 v.invariant.3 (not-false t w.if-x.false) in
+          rw (w.l-is, w.k-is) (omega arith, v.invariant.1, s.0, s.1)
     ]
 
 pub returns : goal.returns
 returns c =
     let v = c.loop-i in
     let e : v.i ≡ c.args.n = omega arith in
-    (rw e at v.invariant.3, rw e at v.invariant.4)
+    (rw e at v.invariant.2, rw e at v.invariant.3)

@@ -6,14 +6,14 @@ use Rattle.residuals.proofs.residual.residual_median_sigma.Goals as goal
 pub overflow_add-to : goal.overflow_add-to
 overflow_add-to c =
     let a = c.args in
-    omega (arith, room a.l.now a.n c.smaller-from.ensures c.gather-count.ensures.0)
+    omega (arith, room a.l.now a.n c.min-from.ensures c.gather-count.ensures.0)
 
 pub slice_bounds-median_mad_sigma-end : goal.slice_bounds-median_mad_sigma-end
 slice_bounds-median_mad_sigma-end c =
     let a = c.args in
-    omega (arith, room a.l.now a.n c.smaller-from.ensures c.gather-count.ensures.0, c.gather-count.auto.l)
+    omega (arith, room a.l.now a.n c.min-from.ensures c.gather-count.ensures.0, c.gather-count.auto.l)
 
 pub returns : goal.returns
 returns c =
     let a = c.args in
-    measured a.l.now a.n c.smaller-from.ensures c.gather-count.ensures.0 c.gather-count.new.l c.median_mad_sigma.new.vals c.gather-count.ensures.1 c.median_mad_sigma.ensures
+    measured a.l.now a.n c.min-from.ensures c.gather-count.ensures.0 c.gather-count.new.l c.median_mad_sigma.new.vals c.gather-count.ensures.1 c.median_mad_sigma.ensures

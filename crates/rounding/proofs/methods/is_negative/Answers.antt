@@ -1,17 +1,16 @@
 -- The sign is the top bit.
-use Rattle.std.proofs.Common.{T, sym, ap, rules}
-use lib.Ieee.{binary64, fits}
+use Rattle.std.proofs.Common.{◌≡◌, T, refl, rules}
+use lib.Dec.{leb}
+use lib.Ieee.{Float, nan, inf, fin, binary64, fits, to_bits, top, is_nan}
 use Rattle.rounding.specs.Methods.{negative}
-use Rattle.rounding.proofs.NanTest.{at_nan, no_nan}
 use Rattle.rounding.proofs.Magnitude.{sign_bit}
 use Rattle.rounding.proofs.methods.is_negative.Goals as goal
 
-pub returns-then-x : goal.returns-then-x
-unfolding negative
-returns-then-x c = sym (ap negative (at_nan c.args.x c.if-x.true))
-
-pub float_to_bits-result : goal.float_to_bits-result
-float_to_bits-result c = no_nan c.args.x c.if-x.false
+signed : (x : Float) → T (fits binary64 x) → leb (top binary64) (to_bits binary64 x) ≡ negative x
+unfolding is_nan
+signed nan held = unfold to_bits negative in refl
+signed (inf s) held = sign_bit binary64 (inf s) held tt
+signed (fin s m e) held = sign_bit binary64 (fin s m e) held tt
 
 pub returns : goal.returns
-returns c = let held : T (fits binary64 c.args.x) = search rules in sign_bit binary64 c.args.x held (no_nan c.args.x c.if-x.false)
+returns c = let held : T (fits binary64 c.args.x) = search rules in rw c.to_bits.ensures (signed c.args.x held)

@@ -1,21 +1,20 @@
-use Rattle.std.proofs.Common.{◌≡◌, ℕ, sym, ap, ◌∙◌, arith}
+use Rattle.std.proofs.Common.{◌≡◌, ℕ, arith}
+use Rattle.std.proofs.lemmas.Bool.Decides.{nat_tests}
 use Prim.Native.Nat.{compare, Ordering}
-use lib.Ieee.{Float}
-use Rattle.rounding.specs.Methods.{total_key, total_cmp, order_of}
-use Rattle.rounding.proofs.Half.{Cmp}
-use Rattle.rounding.proofs.Place.{compare_is}
+use Rattle.std.specs.Ordering.{nat_cmp}
+use Rattle.rounding.specs.Methods.{total_cmp, order_of}
+use Rattle.rounding.proofs.Half.{Cmp, cmp}
 use Rattle.rounding.proofs.methods.total_cmp.Goals as goal
 
--- from how the two keys a and b compare
-by : (x y : Float) (a b : ℕ) (o : Ordering) → a ≡ total_key x → b ≡ total_key y → Cmp o a b → order_of o ≡ total_cmp x y
+-- Rust's comparison of two whole numbers is the logic's.
+by : (a b : ℕ) → nat_cmp a b ≡ order_of (compare a b)
+by a b = go (compare a b) (cmp a b)
+  where
+    go : (o : Ordering) → Cmp o a b → nat_cmp a b ≡ order_of o
+    go Ordering.lt h = grind (arith, nat_tests)
+    go Ordering.eq h = grind (arith, nat_tests)
+    go Ordering.gt h = grind (arith, nat_tests)
+
+pub returns : goal.returns
 unfolding total_cmp
-by x y a b o p q h = sym (ap order_of (compare_is o a b h)) ∙ ap (λ (k : ℕ). order_of (compare k b)) p ∙ ap (λ (k : ℕ). order_of (compare (total_key x) k)) q
-
-pub returns-then-a-b : goal.returns-then-a-b
-returns-then-a-b c = by _ _ c.total_key-a.result c.total_key-b.result Ordering.lt c.total_key-a.ensures c.total_key-b.ensures c.if-a-b.true
-
-pub returns-then-a-b-2 : goal.returns-then-a-b-2
-returns-then-a-b-2 c = by _ _ c.total_key-a.result c.total_key-b.result Ordering.eq c.total_key-a.ensures c.total_key-b.ensures c.if-a-b-2.true
-
-pub returns-else-a-b-2 : goal.returns-else-a-b-2
-returns-else-a-b-2 c = by _ _ c.total_key-a.result c.total_key-b.result Ordering.gt c.total_key-a.ensures c.total_key-b.ensures (omega arith)
+returns c = rw (c.cmp.ensures, c.total_key.ensures, c.total_key-2.ensures) (by _ _)

@@ -23,32 +23,32 @@ returns-then-a-eq9218868437227405312 c =
 
 pub returns-then-d-lt64 : goal.returns-then-d-lt64
 returns-then-d-lt64 c =
-    let v = c.take_apart-v in
+    let v = c.take_apart-digits in
     let A : c.args.a < 0x7ff0_0000_0000_0000 = omega arith in
     let D : 29 ≤ 925 - v.result.place = omega arith in (
-      λ s. ap (λ (x : ℕ). cond s (2 ^ 31) 0 + x) c.nearest.ensures ∙ low_bits c.args.a A v.result.digits v.result.place v.ensures.0 v.ensures.1 c.if-k-lt896.true s,
+      λ s. ap (λ (x : ℕ). cond s (2 ^ 31) 0 + x) c.nearest.ensures ∙ low_bits c.args.a A v.result.digits v.result.place v.ensures.0 v.ensures.1 c.if-place-lt896.true s,
       omega (arith, c.nearest.ensures, kept_le c.args.a A v.result.digits v.result.place v.ensures.0 v.ensures.1 (925 - v.result.place) D),
     )
 
 pub returns-else-d-lt64 : goal.returns-else-d-lt64
 returns-else-d-lt64 c =
-    let v = c.take_apart-v in
-    (none_bits c.args.a (omega arith) v.result.digits v.result.place v.ensures.0 v.ensures.1 c.if-k-lt896.true c.if-d-lt64.false, search rules)
+    let v = c.take_apart-digits in
+    (none_bits c.args.a (omega arith) v.result.digits v.result.place v.ensures.0 v.ensures.1 c.if-place-lt896.true c.if-d-lt64.false, search rules)
 
 pub returns-then-r-lt2139095040 : goal.returns-then-r-lt2139095040
 returns-then-r-lt2139095040 c =
-    let v = c.take_apart-v in
-    let n = c.nearest-else-k-lt896 in (
+    let v = c.take_apart-digits in
+    let n = c.nearest-else-place-lt896 in (
       λ s. subst (λ (x : ℕ). cond s (2 ^ 31) 0 + x ≡ to_bits binary32 (narrowed (of_bits binary64 (cond s (2 ^ 63) 0 + c.args.a)))) (omega arith)
-          (capped c.args.a v.result.digits v.result.place n.result (omega arith) v.ensures.0 v.ensures.1 c.if-k-lt896.false n.ensures s),
+          (capped c.args.a v.result.digits v.result.place n.result (omega arith) v.ensures.0 v.ensures.1 c.if-place-lt896.false n.ensures s),
       omega arith,
     )
 
 pub returns-else-r-lt2139095040 : goal.returns-else-r-lt2139095040
 returns-else-r-lt2139095040 c =
-    let v = c.take_apart-v in
-    let n = c.nearest-else-k-lt896 in (
+    let v = c.take_apart-digits in
+    let n = c.nearest-else-place-lt896 in (
       λ s. subst (λ (x : ℕ). cond s (2 ^ 31) 0 + x ≡ to_bits binary32 (narrowed (of_bits binary64 (cond s (2 ^ 63) 0 + c.args.a)))) (omega arith)
-          (capped c.args.a v.result.digits v.result.place n.result (omega arith) v.ensures.0 v.ensures.1 c.if-k-lt896.false n.ensures s),
+          (capped c.args.a v.result.digits v.result.place n.result (omega arith) v.ensures.0 v.ensures.1 c.if-place-lt896.false n.ensures s),
       le_refl 0x7f80_0000,
     )

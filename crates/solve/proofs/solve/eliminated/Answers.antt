@@ -6,16 +6,16 @@ use Rattle.solve.proofs.solve.eliminated.Goals as goal
 
 pub loop-i-init : goal.loop-i-init
 unfolding eliminated
-loop-i-init c = (search rules, search rules, rw add-one)
+loop-i-init c = (search rules, rw add-one)
 
 pub loop-i-preserved : goal.loop-i-preserved
 loop-i-preserved c =
     let l = c.loop-i in
-    let h : l.i < length l.n = omega arith in
-    (search rules, simp length-set l.invariant.1, rw (add-one, c.reduced-x.ensures) (map_next _ _ _ [] h ∙ l.invariant.2))
+    let h : l.i < length l.m = omega arith in
+    (simp length-set l.invariant.0, rw (add-one, c.reduced.ensures) (map_next _ _ _ [] h ∙ l.invariant.1))
 
 pub returns : goal.returns
 returns c =
     let l = c.loop-i in
-    let h : length l.n ≤ l.i = omega arith in
-    sym (map_done _ _ _ h) ∙ l.invariant.2
+    let h : length l.m ≤ l.i = omega arith in
+    sym (map_done _ _ _ h) ∙ l.invariant.1

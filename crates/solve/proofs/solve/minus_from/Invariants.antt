@@ -1,9 +1,6 @@
 use Rattle.solve.specs.Solve.{minus_from}
-use Rattle.std.proofs.Common.{◌≡◌, ◌-◌, length}
+use Rattle.std.proofs.Common.{◌≡◌, length}
 use Rattle.solve.proofs.solve.minus_from.Given as goal
 
 abbrev pub invariant-loop-j : goal.invariant-loop-j
-invariant-loop-j l = (length l.x ≡ 4) × (length l.pivot ≡ 4) × (minus_from l.j l.f l.x l.pivot ≡ minus_from l.col l.f l.initial.x l.pivot)
-
-abbrev pub decreases-loop-j : goal.decreases-loop-j
-decreases-loop-j l = 4 - l.j
+invariant-loop-j l = (length l.r ≡ 4) × (length l.pivot ≡ 4) × (minus_from l.j l.f l.r l.pivot ≡ minus_from l.col l.f l.initial.r l.pivot)

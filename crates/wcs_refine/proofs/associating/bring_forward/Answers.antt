@@ -27,10 +27,10 @@ pub loop-i-preserved : goal.loop-i-preserved
 loop-i-preserved c =
     let a = c.args in
     let l = c.loop-i in
-    (omega arith, step a.from a.n l.i l.numbers a.numbers.now c.loop-i-test.true c.requires.1 l.invariant.1)
+    step a.from a.n l.i l.numbers a.numbers.now c.loop-i-test.true c.requires.1 l.invariant
 
 pub returns : goal.returns
 returns c =
     let a = c.args in
     let l = c.loop-i in
-    ended a.from a.n l.i l.numbers a.numbers.now l.invariant.0 c.loop-i-test.false c.requires.1 l.invariant.1
+    ended a.from a.n l.i l.numbers a.numbers.now l.auto.i-end c.loop-i-test.false c.requires.1 l.invariant

@@ -9,4 +9,4 @@ returns-then-seen-lt-FEWEST_RESIDUALS c =
 pub returns : goal.returns
 returns c =
     with_stats c.args.floats.now _ c.args.n c.args.seen _ c.requires.0 c.requires.1 c.if-seen-lt-FEWEST_RESIDUALS.false
-    c.residual_median_sigma-m.ensures
+    c.residual_median_sigma.ensures

@@ -1,5 +1,5 @@
 -- First, the table and the new matches to come tell of all new ones; then the present ones to come are to be taken from those that the table still tells of.
-use Rattle.std.proofs.Common.{◌≡◌, ◌+◌, ◌-◌, ◌*◌, ◌≤◌, length, take}
+use Rattle.std.proofs.Common.{◌≡◌, ◌+◌, ◌*◌, ◌≤◌, length, take}
 use Rattle.std.proofs.Math.Seq.{slice}
 use Rattle.wcs_refine.specs.Associate.{links, same_matches}
 use Rattle.wcs_refine.proofs.TableSteps.{Marking, Striking}
@@ -11,14 +11,8 @@ invariant-loop-i l =
     × Marking l.base l.n l.start l.t l.numbers l.fn.numbers (links (slice (l.start + 2 * l.i) (l.start + 2 * l.t) l.fn.numbers))
     (links (slice l.start (l.start + 2 * l.t) l.fn.numbers))
 
-abbrev pub decreases-loop-i : goal.decreases-loop-i
-decreases-loop-i l = l.t - l.i
-
 abbrev pub invariant-loop-j : goal.invariant-loop-j
 invariant-loop-j l =
     (l.j ≤ l.t) × (length l.numbers ≡ length l.fn.numbers)
     × Striking l.base l.n l.start l.t l.numbers l.fn.numbers (links (slice (0 + 2 * l.j) (0 + 2 * l.t) l.fn.numbers))
     (same_matches (slice l.start (l.start + 2 * l.t) l.fn.numbers) (take (2 * l.used) l.fn.numbers))
-
-abbrev pub decreases-loop-j : goal.decreases-loop-j
-decreases-loop-j l = l.t - l.j

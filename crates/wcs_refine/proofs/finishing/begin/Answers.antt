@@ -7,7 +7,7 @@ pub returns : goal.returns
 returns c =
     let a = c.args in
     record {
-      state = λ n. begin_state a.matches.now a.numbers.now _ _ _ c.lay_over.ensures c.requires.1 c.start_pose-pose.ensures _ _ _;
+      state = λ n. begin_state a.matches.now a.numbers.now _ _ _ c.lay_over.ensures c.requires.1 c.start_pose.ensures _ _ _;
       used = refl;
       cached = refl;
     }

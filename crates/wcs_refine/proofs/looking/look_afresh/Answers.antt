@@ -5,6 +5,6 @@ use Rattle.wcs_refine.proofs.looking.look_afresh.Goals as goal
 pub returns : goal.returns
 returns c =
     let a = c.args in
-    looked_afresh a.k a.room a.directions.now a.held a.numbers.now c.requires.1 c.camera_rows_f64-rows.ensures
+    looked_afresh a.course.now.k a.course.now.room a.course.now.directions.now a.held a.numbers.now c.requires.1 c.camera_rows_f64-rows.ensures
     _ _ _ _ c.list_cone-n.result c.predict-q.result c.prune-c.result c.requires.2
     c.list_cone-n.ensures c.predict-q.ensures c.prune-c.ensures c.after_query.ensures

@@ -5,6 +5,6 @@ use Rattle.wcs_refine.proofs.looking.predict.Goals as goal
 pub returns : goal.returns
 returns c =
     let a = c.args in
-    predicts a.k a.room a.n a.directions.now a.rows a.numbers.now c.requires.0 c.requires.1
+    predicts a.course.now.k a.course.now.room a.n a.course.now.directions.now a.rows a.numbers.now c.requires.0 c.requires.1.many
     c.predict_into.new.numbers a.floats.now c.predict_into.new.xy c.predict_into.result
-    c.requires.2 c.prune_r-r.ensures c.predict_into.ensures
+    c.requires.1.far c.prune_r-r.ensures c.predict_into.ensures

@@ -1,5 +1,5 @@
 -- Those that reach the panel so far stand where they are to, as their points do, and with those to come they are all.
-use Rattle.std.proofs.Common.{◌+◌, ◌-◌, ◌*◌, ◌≤◌}
+use Rattle.std.proofs.Common.{◌+◌, ◌*◌, ◌≤◌}
 use Rattle.std.proofs.Math.Seq.{slice}
 use Rattle.query.specs.Listing.{falling, standing}
 use Rattle.wcs_refine.specs.Listing.{points}
@@ -15,6 +15,3 @@ invariant-loop-i l =
     × Writing 0 (2 * l.k) l.xy l.fn.xy
     (points (falling l.scale l.cut l.prune_r l.directions l.rows) (slice (l.from + l.i) (l.from + l.n) l.fn.numbers))
     (points (falling l.scale l.cut l.prune_r l.directions l.rows) (slice l.from (l.from + l.n) l.fn.numbers))
-
-abbrev pub decreases-loop-i : goal.decreases-loop-i
-decreases-loop-i l = l.n - l.i

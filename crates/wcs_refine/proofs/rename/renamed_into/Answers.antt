@@ -1,6 +1,6 @@
 -- `rename::renamed_into` meets its contract. The invariant: the matches renamed so far stand where they are to, and with those to come they are all.
 -- Assumes nothing.
-use Rattle.std.proofs.Common.{◌≡◌, ℕ, ◌+◌, ◌*◌, ◌<◌, ◌≤◌, ◌⊎◌, List, [], ◌∷◌, ◌++◌, length, get_or, take, drop, set, sym, ap, ◌∙◌, subst, inl, inr, ⊎_elim, arith, length-set, rules}
+use Rattle.std.proofs.Common.{◌≡◌, ℕ, ◌+◌, ◌*◌, ◌<◌, ◌≤◌, ◌⊎◌, List, [], ◌∷◌, ◌++◌, length, get_or, take, drop, set, sym, ap, ◌∙◌, subst, inl, inr, ⊎_elim, arith, length-set}
 use lib.Seq.{slice, slice_empty}
 use Rattle.wcs_refine.specs.Listing.{renamed_by}
 use Rattle.query.proofs.Listed.{Writing, onward, push, in_front, behind, part_same, whole}
@@ -81,4 +81,4 @@ pub returns : goal.returns
 returns c =
     let a = c.args in
     let l = c.loop-i in
-    ended (slice a.ids (a.ids + a.count) a.numbers.now) a.from a.t a.to a.numbers.now l.numbers l.i l.invariant.0 (search rules) c.requires.2 l.invariant.1
+    ended (slice a.ids (a.ids + a.count) a.numbers.now) a.from a.t a.to a.numbers.now l.numbers l.i l.invariant.0 c.loop-i-test.false c.requires.2 l.invariant.1

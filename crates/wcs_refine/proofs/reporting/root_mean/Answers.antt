@@ -6,4 +6,4 @@ pub returns-then-n-lt1 : goal.returns-then-n-lt1
 returns-then-n-lt1 c = rw (lt-ltb _ _ c.if-n-lt1.true)
 
 pub returns : goal.returns
-returns c = rw (le-ltb _ _ c.if-n-lt1.false, ← c.nearest_u64_to_f64.ensures) c.sqrt64.ensures
+returns c = rw (le-ltb _ _ c.if-n-lt1.false, ← c.nearest_u64_to_f64.ensures) c.sqrt.ensures

@@ -1,5 +1,5 @@
 -- `wcs_refine::reporting::sum_squares` meets its contract. The invariant: what is left to sum gives the whole. Assumes nothing.
-use Rattle.std.proofs.Common.{get_or, arith, rules}
+use Rattle.std.proofs.Common.{get_or}
 use borrow.Author.Tests.{not-true, not-false}
 use lib.Ieee.{nan, eq, ne}
 use Rattle.solve.specs.Constants.{minus_one}
@@ -7,19 +7,19 @@ use Rattle.wcs_refine.proofs.ReportSteps.{squares_more, squares_same, squares_do
 use Rattle.wcs_refine.proofs.reporting.sum_squares.Goals as goal
 use Rattle.wcs_refine.proofs.reporting.sum_squares.Goals.{then-x, else-x}
 
-pub loop-i-preserved : goal.loop-i-preserved
+pub loop-x-preserved : goal.loop-x-preserved
 unfolding ne
-loop-i-preserved c =
-    let l = c.loop-i in
+loop-x-preserved c =
+    let l = c.loop-x in
     let rs = c.args.residuals.now in
-    let h = c.loop-i-test.true in
-    let t = eq (get_or rs l.i nan) minus_one in
+    let h = c.loop-x-test.true in
+    let t = eq (get_or rs l.x-index nan) minus_one in
     elim c.if-x.branch [
-      | then-x w ↦ rw (w.s-is) (omega arith, squares_more rs l.i l.s l.invariant.1 h (not-true t w.if-x.true))
-      | else-x w ↦ rw (w.s-is) (omega arith, squares_same rs l.i l.s l.invariant.1 h (not-false t w.if-x.false))
+      | then-x w ↦ rw (w.s-is) (squares_more rs l.x-index l.s l.invariant h (not-true t w.if-x.true))
+      | else-x w ↦ rw (w.s-is) (squares_same rs l.x-index l.s l.invariant h (not-false t w.if-x.false))
     ]
 
 pub returns : goal.returns
 returns c =
-    let l = c.loop-i in
-    squares_done c.args.residuals.now l.i l.s l.invariant.1 (search rules)
+    let l = c.loop-x in
+    squares_done c.args.residuals.now l.x-index l.s l.invariant c.loop-x-test.false

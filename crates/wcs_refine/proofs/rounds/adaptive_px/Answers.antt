@@ -8,4 +8,4 @@ returns-in_default c = radius_missing c.args.k c.radius_px-most.ensures c.in_def
 pub returns : goal.returns
 returns c =
     radius_of c.args.k c.radius_px-most.ensures
-    c.in-Of.is c.max.ensures c.min.ensures
+    c.in-Some.is c.max.ensures c.min.ensures

@@ -1,7 +1,8 @@
 -- `wcs_refine::rounds::run` meets its contract. The invariant: the rounds that are left, with the counts so far, give the whole. Assumes nothing.
-use Rattle.std.proofs.Common.{arith, rules}
+use Rattle.std.proofs.Common.{arith}
 use Rattle.entry.specs.Entry.{fixed_of}
 use Rattle.wcs_refine.specs.Keeping.{held_state}
+use Rattle.wcs_refine.proofs.Lent.{same_on}
 use Rattle.wcs_refine.proofs.RunSteps.{turn_passes, turn_queries, turn_on, turn_ends, rounds_end, ran}
 use Rattle.wcs_refine.proofs.rounds.run.Goals as goal
 
@@ -10,46 +11,46 @@ overflow_add-passes c =
     let a = c.args in
     let l = c.loop-i in
     let o = c.one_round-s in
-    omega (arith, c.requires.2, c.loop-i-test.true, l.invariant.1, turn_passes a.k a.room a.spots.now a.directions.now l.h l.numbers _ o.result o.ensures)
+    omega (arith, c.requires.2, c.loop-i-test.true, l.invariant.0, turn_passes a.course.now.k a.course.now.room a.course.now.spots.now a.course.now.directions.now l.h l.w.numbers.now _ o.result o.ensures.1)
 
 pub overflow_add-queries : goal.overflow_add-queries
 overflow_add-queries c =
     let a = c.args in
     let l = c.loop-i in
     let o = c.one_round-s in
-    omega (arith, c.requires.2, c.loop-i-test.true, l.invariant.2, turn_queries a.k a.room a.spots.now a.directions.now l.h l.numbers _ o.result o.ensures)
+    omega (arith, c.requires.2, c.loop-i-test.true, l.invariant.1, turn_queries a.course.now.k a.course.now.room a.course.now.spots.now a.course.now.directions.now l.h l.w.numbers.now _ o.result o.ensures.1)
 
-pub returns-then-stops : goal.returns-then-stops
-returns-then-stops c =
+pub returns-in-Some : goal.returns-in-Some
+returns-in-Some c =
     let a = c.args in
     let l = c.loop-i in
-    let o = c.one_round-s in
-    ran a.k a.room a.spots.now a.directions.now a.rounds a.held a.numbers.now _ _
-    (turn_ends a.k a.room a.spots.now a.directions.now l.h l.numbers _ o.result o.ensures a.rounds l.i l.passes l.queries l.comparisons
-    c.loop-i-test.true l.invariant.8 c.stops.ensures c.if-stops.true c.refusal_of-refusal.ensures c.greater-comparisons.ensures)
-    o.ensures.fits
+    let o = c.one_round-s in (
+      same_on l.invariant.3 o.ensures.0,
+      ran a.course.now.k a.course.now.room a.course.now.spots.now a.course.now.directions.now a.rounds a.held a.w.now.numbers.now _ _
+          (turn_ends a.course.now.k a.course.now.room a.course.now.spots.now a.course.now.directions.now l.h l.w.numbers.now _ o.result o.ensures.1 a.rounds l.i l.passes l.queries l.comparisons
+          c.loop-i-test.true l.invariant.4 c.ending.ensures c.in-Some.is c.max-comparisons.ensures)
+          o.ensures.1.fits,
+    )
 
 pub loop-i-preserved : goal.loop-i-preserved
 loop-i-preserved c =
     let a = c.args in
     let l = c.loop-i in
     let o = c.one_round-s in (
-      omega (arith, c.loop-i-test.true),
-      omega (arith, l.invariant.1, turn_passes a.k a.room a.spots.now a.directions.now l.h l.numbers _ o.result o.ensures),
-      omega (arith, l.invariant.2, turn_queries a.k a.room a.spots.now a.directions.now l.h l.numbers _ o.result o.ensures),
-      o.ensures.fits,
-      omega (arith, o.auto, l.invariant.4),
-      omega (arith, o.auto, l.invariant.5),
-      omega (arith, o.auto, l.invariant.6),
-      omega (arith, o.auto, l.invariant.7),
-      turn_on a.k a.room a.spots.now a.directions.now l.h l.numbers _ o.result o.ensures a.rounds l.i l.passes l.queries l.comparisons
-          c.loop-i-test.true l.invariant.8 c.stops.ensures c.if-stops.false c.greater-comparisons.ensures,
+      omega (arith, l.invariant.0, turn_passes a.course.now.k a.course.now.room a.course.now.spots.now a.course.now.directions.now l.h l.w.numbers.now _ o.result o.ensures.1),
+      omega (arith, l.invariant.1, turn_queries a.course.now.k a.course.now.room a.course.now.spots.now a.course.now.directions.now l.h l.w.numbers.now _ o.result o.ensures.1),
+      o.ensures.1.fits,
+      same_on l.invariant.3 o.ensures.0,
+      turn_on a.course.now.k a.course.now.room a.course.now.spots.now a.course.now.directions.now l.h l.w.numbers.now _ o.result o.ensures.1 a.rounds l.i l.passes l.queries l.comparisons
+          c.loop-i-test.true l.invariant.4 c.ending.ensures c.in_default.is c.max-comparisons.ensures,
     )
 
 pub returns : goal.returns
 returns c =
     let a = c.args in
-    let l = c.loop-i in
-    ran a.k a.room a.spots.now a.directions.now a.rounds a.held a.numbers.now _ _
-    (rounds_end (fixed_of a.k) a.spots.now a.directions.now a.rounds (held_state a.room l.h l.numbers) l.i l.passes l.queries l.comparisons (search rules)
-    l.invariant.8) l.invariant.3
+    let l = c.loop-i in (
+      l.invariant.3,
+      ran a.course.now.k a.course.now.room a.course.now.spots.now a.course.now.directions.now a.rounds a.held a.w.now.numbers.now _ _
+          (rounds_end (fixed_of a.course.now.k) a.course.now.spots.now a.course.now.directions.now a.rounds (held_state a.course.now.room l.h l.w.numbers.now) l.i l.passes l.queries l.comparisons
+          l.auto.i-end c.loop-i-test.false l.invariant.4) l.invariant.2,
+    )
