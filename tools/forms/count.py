@@ -33,7 +33,7 @@ def functions(lines):
         pad, j = m.group(1), i
         while j < len(lines) and not re.match(pad + r'\}', lines[j]) and not (j == i and lines[j].endswith((';', '}'))):
             j += 1
-        k = next((n for n in range(i, j + 1) if lines[n] == pad + '{' or (lines[n].startswith(pad + 'fn') or lines[n].startswith(pad + 'pub')) and lines[n].endswith('{')), i)
+        k = next((n for n in range(i, j + 1) if lines[n] == pad + '{' or re.match(pad + r'(\)|fn|pub)', lines[n]) and lines[n].endswith('{')), i)
         c = i
         while c and lines[c - 1].lstrip().startswith(('//', '#[')):
             c -= 1

@@ -60,8 +60,8 @@ def after(name, text): return name + ' =' + (text if text.startswith('\n') else 
 def record(pairs): return 'record {\n' + ''.join('  ' + after(n, str(t)).replace('\n', '\n  ') + ';\n' for n, t in pairs) + '}'
 def pose(p): return record(zip(('theta', 'ra', 'dec', 'scale'), map(number, p)))
 def view(w):
-    return record((('basis', matrix(w['basis'])),
-        ('cos_t', number(w['cos_t'])), ('sin_t', number(w['sin_t'])), ('ps', number(w['ps'])), ('cut', number(w['cut']))))
+    roll = 'record { cos_t = %s; sin_t = %s; ps = %s }' % tuple(number(w[n]) for n in ('cos_t', 'sin_t', 'ps'))
+    return record((('basis', matrix(w['basis'])), ('roll', roll), ('cut', number(w['cut']))))
 def sums(t):
     both = record((('ata', matrix(t['ata'])), ('atb', vector(t['atb']))))
     return record((('sums', both), ('n', t['n'])))

@@ -1,3 +1,2 @@
 pub mod Wholes
-pub mod WholePart
 pub mod Theorems

@@ -2,11 +2,11 @@
 // of the rest is asked for, and its sign.
 ghost use Rattle.std.specs.Prelude.{◌≡◌};
 ghost use Rattle.std.specs.List.{fold};
-ghost use Rattle.std.specs.Float.Ieee.{to_unsigned};
 ghost use Rattle.rounding.specs.Arith.{◌⊖◌, ◌⊗◌, ◌⊘◌, one64};
 ghost use Rattle.angles.specs.SinCos.{quarter_turns, reduced, sine, cosine, mod4, by_quarter, in_reach, sin_cos, sin, cos, cos32};
 
 use rounding::{abs, narrow, widen};
+use std::num::saturating_f64_to_u64;
 
 // 2 / π.
 const TWO_OVER_PI: f64 = 0.6366197723675814;
@@ -30,6 +30,7 @@ pub struct SinCos {
 }
 
 // The nearest whole number of quarter turns.
+#[tactic(auto, unfolding(crate::specs::SinCos::quarter_turns))]
 fn quarter_turns(a: f64) -> f64
     ensures { result ≡ quarter_turns a }
 {
@@ -37,6 +38,7 @@ fn quarter_turns(a: f64) -> f64
 }
 
 // What k quarter turns leave of the angle a.
+#[tactic(auto, unfolding(crate::specs::SinCos::reduced))]
 fn rest(a: f64, k: f64) -> f64
     ensures { result ≡ reduced a k }
 {
@@ -44,6 +46,7 @@ fn rest(a: f64, k: f64) -> f64
 }
 
 // A bracket for each divisor, from the inside out.
+// Stays (no plainer): here and in inverse.rt it is a `fold` of one line; one function for both would take its step as a closure, and be `fold` again.
 fn brackets(z: f64, divisors: &[f64], innermost: f64) -> f64
     ensures { result ≡ fold (λ inner d. one64 ⊖ z ⊘ d ⊗ inner) innermost divisors.now }
 {
@@ -69,32 +72,21 @@ fn cosine_of(x: f64) -> f64
     brackets(z, &divisors, 1.0 - z / 240.0)
 }
 
-// x without its fraction, and within a `u64`: 0 below 0 and of a NaN, and the largest from 2^64 on.
-fn whole_part(x: f64) -> u64
-    ensures { result ≡ to_unsigned 64 x }
-{
-    if x >= 18446744073709551616.0 {
-        return 0xffff_ffff_ffff_ffff;
-    }
-    if x > -1.0 {
-        std::num::truncating_f64_to_u64(x)
-    } else {
-        0
-    }
-}
-
 // k mod 4.
+#[tactic(auto, unfolding(crate::specs::SinCos::mod4))]
 fn quarter(k: f64) -> u64
     ensures { result ≡ mod4 k }
 {
     if k < 0.0 {
-        (4 - whole_part(-k) % 4) % 4
+        (4 - saturating_f64_to_u64(-k) % 4) % 4
     } else {
-        whole_part(k) % 4
+        saturating_f64_to_u64(k) % 4
     }
 }
 
 // The sine s and the cosine c of the rest, turned by q quarters.
+// Stays (no plainer): q is a count of quarters modulo 4, as `quarter` reckons it; an enum of the four would be made of it by one more `match`.
+#[tactic(auto, unfolding(crate::specs::SinCos::by_quarter))]
 fn by_quarter(q: u64, s: f64, c: f64) -> SinCos
     ensures { result ≡ by_quarter q s c }
 {
@@ -107,6 +99,7 @@ fn by_quarter(q: u64, s: f64, c: f64) -> SinCos
 }
 
 // The angle is within 1,024 of 0, so that k is small and the rest has not lost its digits; the contract holds of any a.
+#[tactic(auto, unfolding(crate::specs::SinCos::in_reach))]
 fn in_reach(a: f64) -> SinCos
     ensures { result ≡ in_reach a }
 {
@@ -116,6 +109,7 @@ fn in_reach(a: f64) -> SinCos
 }
 
 // Sine and cosine of the angle a, in radians. Both are NaN where a is not finite or beyond 1,024 either way.
+#[tactic(auto, unfolding(crate::specs::SinCos::sin_cos))]
 pub fn sin_cos(a: f64) -> SinCos
     ensures { result ≡ sin_cos a }
 {
@@ -130,6 +124,7 @@ pub fn sin_cos(a: f64) -> SinCos
 }
 
 // The sine alone.
+#[tactic(auto, unfolding(crate::specs::SinCos::sin))]
 pub fn sin(a: f64) -> f64
     ensures { result ≡ sin a }
 {
@@ -139,6 +134,7 @@ pub fn sin(a: f64) -> f64
 
 // The cosine alone.
 // Stays (no plainer): sine and cosine are two functions of the Rust, each one call and one of its fields.
+#[tactic(auto, unfolding(crate::specs::SinCos::cos))]
 pub fn cos(a: f64) -> f64
     ensures { result ≡ cos a }
 {
@@ -147,6 +143,7 @@ pub fn cos(a: f64) -> f64
 }
 
 // The cosine of an `f32`: widened, and the answer narrowed.
+#[tactic(auto, unfolding(crate::specs::SinCos::cos32))]
 pub fn cos_f32(a: f32) -> f32
     ensures { result ≡ cos32 a }
 {

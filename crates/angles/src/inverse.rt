@@ -11,6 +11,7 @@ const HALF_PI: f64 = 1.5707963267948966;
 const PI: f64 = 3.141592653589793;
 
 // From the tangent of an angle to that of its half.
+#[tactic(auto, unfolding(crate::specs::Inverse::halved))]
 fn half(t: f64) -> f64
     ensures { result ≡ halved t }
 {
@@ -41,6 +42,7 @@ fn series_of(t: f64) -> f64
 }
 
 // The angle of a tangent t from 0 to 1.
+#[tactic(auto, unfolding(crate::specs::Inverse::atan_small))]
 fn small(t: f64) -> f64
     ensures { result ≡ atan_small t }
 {
@@ -48,6 +50,7 @@ fn small(t: f64) -> f64
 }
 
 // The angle of a tangent t at or above 0.
+#[tactic(auto, unfolding(crate::specs::Inverse::atan_magnitude))]
 fn magnitude(t: f64) -> f64
     ensures { result ≡ atan_magnitude t }
 {
@@ -59,6 +62,7 @@ fn magnitude(t: f64) -> f64
 }
 
 // The arc tangent, with the sign of x. A NaN stays.
+#[tactic(auto, unfolding(crate::specs::Inverse::atan))]
 pub fn atan(x: f64) -> f64
     ensures { result ≡ atan x }
 {
@@ -67,6 +71,7 @@ pub fn atan(x: f64) -> f64
 }
 
 // The arc sine; NaN beyond 1 either way.
+#[tactic(auto, unfolding(crate::specs::Inverse::asin))]
 pub fn asin(v: f64) -> f64
     ensures { result ≡ asin v }
 {
@@ -92,6 +97,7 @@ fn zero_angle(y: f64, x: f64) -> f64
 }
 
 // The angle of the direction (x, y), from minus to plus half a turn; a zero's sign says on which side of the cut it lies. NaN where either is NaN.
+#[tactic(auto, unfolding(crate::specs::Inverse::atan2))]
 pub fn atan2(y: f64, x: f64) -> f64
     ensures { result ≡ atan2 y x }
 {

@@ -126,9 +126,7 @@ view_1 = record {
       ∷ (zero64 ∷ f64 0x8000000000000000 ∷ one64 ∷ [])
       ∷ (one64 ∷ zero64 ∷ zero64 ∷ [])
       ∷ [];
-  cos_t = one64;
-  sin_t = zero64;
-  ps = f64 0x3F50000000000000;
+  roll = record { cos_t = one64; sin_t = zero64; ps = f64 0x3F50000000000000 };
   cut = f64 0x3FD0000000000000;
 }
 
@@ -231,9 +229,7 @@ view_2_2 = record {
       ∷ (f64 0x3EB520B30BB03423 ∷ f64 0x3DC6B286044E128D ∷ f64 0x3FEFFFFFFFFFE41A ∷ [])
       ∷ (f64 0x3FEFFFFFFFB60744 ∷ f64 0x3F01304D00E47399 ∷ f64 0xBEB520B30BE0F88A ∷ [])
       ∷ [];
-  cos_t = f64 0x3FEFFFFFF77F8C30;
-  sin_t = f64 0x3F275383EE780D6A;
-  ps = f64 0x3F50000000000000;
+  roll = record { cos_t = f64 0x3FEFFFFFF77F8C30; sin_t = f64 0x3F275383EE780D6A; ps = f64 0x3F50000000000000 };
   cut = f64 0x3FD0000000000000;
 }
 
@@ -270,9 +266,7 @@ view_2_3 = record {
       ∷ (f64 0x3EB520ED887FB2DC ∷ f64 0x3DC6B27F645FA370 ∷ f64 0x3FEFFFFFFFFFE41A ∷ [])
       ∷ (f64 0x3FEFFFFFFFB60907 ∷ f64 0x3F01301867DB6681 ∷ f64 0xBEB520ED88B0769E ∷ [])
       ∷ [];
-  cos_t = f64 0x3FEFFFFFF7814E9C;
-  sin_t = f64 0x3F275119E63BB7E5;
-  ps = f64 0x3F50000000000000;
+  roll = record { cos_t = f64 0x3FEFFFFFF7814E9C; sin_t = f64 0x3F275119E63BB7E5; ps = f64 0x3F50000000000000 };
   cut = f64 0x3FD0000000000000;
 }
 
@@ -306,9 +300,7 @@ view_2 = record {
       ∷ (f64 0x3EB520ED86DE6B09 ∷ f64 0x3DC6B27F63BE6C00 ∷ f64 0x3FEFFFFFFFFFE41A ∷ [])
       ∷ (f64 0x3FEFFFFFFFB60907 ∷ f64 0x3F01301868B4C4E0 ∷ f64 0xBEB520ED870F2ECB ∷ [])
       ∷ [];
-  cos_t = f64 0x3FEFFFFFF7814E77;
-  sin_t = f64 0x3F27511A18684B99;
-  ps = f64 0x3F50000000000000;
+  roll = record { cos_t = f64 0x3FEFFFFFF7814E77; sin_t = f64 0x3F27511A18684B99; ps = f64 0x3F50000000000000 };
   cut = f64 0x3FD0000000000000;
 }
 

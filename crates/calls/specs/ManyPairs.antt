@@ -117,9 +117,7 @@ view_1 = record {
       ∷ (zero64 ∷ f64 0x8000000000000000 ∷ one64 ∷ [])
       ∷ (one64 ∷ zero64 ∷ zero64 ∷ [])
       ∷ [];
-  cos_t = one64;
-  sin_t = zero64;
-  ps = f64 0x3F50000000000000;
+  roll = record { cos_t = one64; sin_t = zero64; ps = f64 0x3F50000000000000 };
   cut = f64 0x3D719799812DEA11;
 }
 

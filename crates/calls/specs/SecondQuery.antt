@@ -122,9 +122,7 @@ view_1 = record {
       ∷ (zero64 ∷ f64 0x8000000000000000 ∷ one64 ∷ [])
       ∷ (one64 ∷ zero64 ∷ zero64 ∷ [])
       ∷ [];
-  cos_t = one64;
-  sin_t = zero64;
-  ps = f64 0x3F50000000000000;
+  roll = record { cos_t = one64; sin_t = zero64; ps = f64 0x3F50000000000000 };
   cut = f64 0x3D719799812DEA11;
 }
 
@@ -227,9 +225,7 @@ view_2_2 = record {
       ∷ (f64 0xBEE3689A3FC40746 ∷ f64 0x3DC3E02885015648 ∷ f64 0x3FEFFFFFFFFA1D3A ∷ [])
       ∷ (f64 0x3FEFFFFFFFF910C1 ∷ f64 0xBED0628F185EBF29 ∷ f64 0x3EE3689A3FC4AA1A ∷ [])
       ∷ [];
-  cos_t = f64 0x3FEFF0177C765D66;
-  sin_t = f64 0x3FAFE48371347B77;
-  ps = f64 0x3F50000000000000;
+  roll = record { cos_t = f64 0x3FEFF0177C765D66; sin_t = f64 0x3FAFE48371347B77; ps = f64 0x3F50000000000000 };
   cut = f64 0x3D719799812DEA11;
 }
 
@@ -266,9 +262,7 @@ view_2_3 = record {
       ∷ (f64 0xBEC81160D23A83B5 ∷ f64 0x3D7F0FBC2E26A351 ∷ f64 0x3FEFFFFFFFFF6F2F ∷ [])
       ∷ (f64 0x3FEFFFFFFFFF6885 ∷ f64 0xBEA4A6346BEFEE26 ∷ f64 0x3EC81160D23A88B8 ∷ [])
       ∷ [];
-  cos_t = f64 0x3FEFF0131CEBF9A9;
-  sin_t = f64 0x3FAFE8E444CC8960;
-  ps = f64 0x3F50000000000000;
+  roll = record { cos_t = f64 0x3FEFF0131CEBF9A9; sin_t = f64 0x3FAFE8E444CC8960; ps = f64 0x3F50000000000000 };
   cut = f64 0x3D719799812DEA11;
 }
 
@@ -305,9 +299,7 @@ view_2_4 = record {
       ∷ (f64 0xBEC8122924302EC2 ∷ f64 0x3D7F10FED2AA1B17 ∷ f64 0x3FEFFFFFFFFF6F26 ∷ [])
       ∷ (f64 0x3FEFFFFFFFFF687C ∷ f64 0xBEA4A65F09CEF5D3 ∷ f64 0x3EC81229243033C5 ∷ [])
       ∷ [];
-  cos_t = f64 0x3FEFF0131D3A840F;
-  sin_t = f64 0x3FAFE8E3F63074E8;
-  ps = f64 0x3F50000000000000;
+  roll = record { cos_t = f64 0x3FEFF0131D3A840F; sin_t = f64 0x3FAFE8E3F63074E8; ps = f64 0x3F50000000000000 };
   cut = f64 0x3D719799812DEA11;
 }
 
@@ -342,9 +334,7 @@ view_2 = record {
       ∷ (f64 0xBEC81229209A1E94 ∷ f64 0x3D7F10FED64CA76A ∷ f64 0x3FEFFFFFFFFF6F26 ∷ [])
       ∷ (f64 0x3FEFFFFFFFFF687C ∷ f64 0xBEA4A65F0F4D14FE ∷ f64 0x3EC81229209A2397 ∷ [])
       ∷ [];
-  cos_t = f64 0x3FEFF0131D3A8078;
-  sin_t = f64 0x3FAFE8E3F6340CF9;
-  ps = f64 0x3F50000000000000;
+  roll = record { cos_t = f64 0x3FEFF0131D3A8078; sin_t = f64 0x3FAFE8E3F6340CF9; ps = f64 0x3F50000000000000 };
   cut = f64 0x3D719799812DEA11;
 }
 

@@ -59,11 +59,6 @@ module _ (f : Spot → Bool) (l : List Float) (n i : ℕ) (whole : every_spot f 
       let k : n - i ≡ 0 = omega arith in
       whole ∙ ap (every_spot f l i) k
 
-pub spots_start : (f : Spot → Bool) (l : List Float) (n : ℕ) → every_spot f l 0 n ≡ every_spot f l 0 (n - 0)
-spots_start f l n =
-    let k : n ≡ n - 0 = omega arith in
-    ap (every_spot f l 0) k
-
 -- the two places of the match i
 two : (ms : List ℕ) (i : ℕ) → 2 * i + 1 < length ms → drop (2 * i) ms ≡ get_or ms (2 * i) 0 ∷ get_or ms (2 * i + 1) 0 ∷ drop (2 * (i + 1)) ms
 two ms i h =

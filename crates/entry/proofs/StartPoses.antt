@@ -5,11 +5,10 @@ use Prim.Native.Nat.{ℕ, suc, ◌+◌, ◌-◌, ◌≤◌, ◌<◌}
 use native.Mathlib.Numerals.{add-one}
 use native.Mathlib.Omega.{arith}
 use lib.Ieee.{Float, binary64, neg, of_bits}
-use Rattle.rounding.specs.Arith.{◌⊕◌, ◌⊗◌, zero64, one64}
+use Rattle.rounding.specs.Arith.{◌⊕◌, ◌⊗◌, one64}
 use Rattle.rounding.specs.Methods.{max_f, clamp_f}
 use Rattle.rounding.specs.Root.{root}
 use Rattle.rounding.proofs.RootMax.{Plain, root_max, plain_max, plain_squares}
-use Rattle.angles.specs.SinCos.{sin, cos}
 use Rattle.angles.specs.Inverse.{asin, atan2}
 use Rattle.solve.specs.Constants.{minus_one}
 use Rattle.solve.specs.Vector.{at, row, entry, dot}
@@ -45,25 +44,6 @@ module _ (spots : List Float) (n i : ℕ) (square : Float) (plain : Plain binary
       let e : n - i ≡ 0 = omega arith in
       let s : farthest spots i (n - i) (root binary64 square) ≡ root binary64 square = ap (λ (k : ℕ). farthest spots i k (root binary64 square)) e in
       er ∙ sym s ∙ left
-
--- ---- the axes
-
-pub east_of : (ra : Float) {s c : Float} → s ≡ sin ra → c ≡ cos ra → neg s ∷ c ∷ zero64 ∷ [] ≡ east ra
-unfolding east
-east_of ra {s} {c} p q = ap (λ (x : Float). neg x ∷ c ∷ zero64 ∷ []) p ∙ ap (λ (x : Float). neg (sin ra) ∷ x ∷ zero64 ∷ []) q
-
-north_from : Float → Float → Float → Float → List Float
-north_from sa ca sd cd = neg sd ⊗ ca ∷ neg sd ⊗ sa ∷ cd ∷ []
-
-north_made : (ra dec : Float) → north_from (sin ra) (cos ra) (sin dec) (cos dec) ≡ north ra dec
-unfolding north north_from
-north_made ra dec = refl
-
-pub north_of : (ra dec : Float) {sa ca sd cd : Float} → sa ≡ sin ra → ca ≡ cos ra → sd ≡ sin dec → cd ≡ cos dec → neg sd ⊗ ca ∷ neg sd ⊗ sa ∷ cd ∷ [] ≡ north ra dec
-unfolding north_from
-north_of ra dec {sa} {ca} {sd} {cd} p q r s =
-    let a : north_from sa ca sd cd ≡ north_from (sin ra) (cos ra) (sin dec) (cos dec) = cc in
-    a ∙ north_made ra dec
 
 -- ---- the pose
 

@@ -64,6 +64,8 @@ pub trait Bounded {
     }
 }
 
+// Stays (form of 01): "the bounds of refusals 6 to 9 are constants of the types they bound", so each of the six from here on is a type with its two.
+
 // The pixel scale, in radians per pixel: 2^-30 to 1.
 #[derive(Clone, Copy)]
 pub struct Scale(pub f64);

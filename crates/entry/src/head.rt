@@ -1,19 +1,19 @@
 // What a run computes once from its arguments.
-ghost use Rattle.std.specs.Prelude.{◌≡◌, [], ◌∷◌, ◌/◌, length};
+ghost use Rattle.std.specs.Prelude.{◌≡◌, [], ◌∷◌};
 ghost use Rattle.rounding.specs.Arith.{zero64};
 ghost use Rattle.solve.specs.Vector.{at};
-ghost use Rattle.project.specs.Camera.{east, north};
 ghost use Rattle.entry.specs.Fixed.{farthest, fixed_from, start_pose_of, requery_margin, search_radius, requery_cos, radius_px, prune_r, margin_px, keep_r, theta_margin};
 ghost use Rattle.entry.specs.Entry.{fixed_of};
 
 use crate::Settings;
-use angles::{asin, atan2, cos, sin};
+use angles::{asin, atan2, cos};
 use fit::Pose;
 use panel::{SPOT_NUMBERS, spot_at};
-use project::dot;
+use project::{Sky, dot, plane_at};
 use rounding::{clamp, max, sqrt, widen};
 
 // The greatest distance of the first n spots, or 0 if there are none: the root of the greatest square.
+// Stays (no plainer): it promises this of every n, of more spots than the list has too; of a slice of n spots it would promise less.
 pub fn farthest_of(spots: &[f64], n: usize) -> f64
     ensures { result ≡ farthest spots.now 0 n zero64 }
 {
@@ -27,6 +27,7 @@ pub fn farthest_of(spots: &[f64], n: usize) -> f64
 
 // What the rounds read beside spots, directions and their state. Of the directions and of the candidate lists only the lengths count.
 // Stays (form of 01): the numbers of a call come each by itself, in the call's own order.
+#[tactic(auto, unfolding(crate::specs::Fixed::fixed_from))]
 pub fn settings_of(
     spots: &[f64],
     directions: usize,
@@ -58,33 +59,11 @@ pub fn settings_of(
 
 // ---- the start pose
 
-// The tangent plane's axis to the east.
-fn east_at(ra: f64) -> [f64; 3]
-    ensures { result ≡ east ra }
-{
-    let s = sin(ra);
-    let c = cos(ra);
-    [-s, c, 0.0]
-}
-
-// The tangent plane's axis to the north.
-fn north_at(ra: f64, dec: f64) -> [f64; 3]
-    ensures { result ≡ north ra dec }
-{
-    let sin_a = sin(ra);
-    let cos_a = cos(ra);
-    let sin_d = sin(dec);
-    let cos_d = cos(dec);
-    [-sin_d * cos_a, -sin_d * sin_a, cos_d]
-}
-
+// Stays (no plainer): it is one call of the library's `map`, as `narrowed_row` of camera.rt is with the narrowing.
 fn widened(v: [f32; 3]) -> [f64; 3]
     ensures { result ≡ at v 0 ∷ at v 1 ∷ at v 2 ∷ [] }
 {
-    let x = widen(v[0]);
-    let y = widen(v[1]);
-    let z = widen(v[2]);
-    [x, y, z]
+    v.map(|x| widen(x))
 }
 
 // From the rotation's third row, the boresight, and its first, the camera's x axis.
@@ -95,7 +74,8 @@ pub fn start_pose(rotation: [[f32; 3]; 3], scale: f64) -> Pose
     let x = widened(rotation[0]);
     let ra = atan2(z[1], z[0]);
     let dec = asin(clamp(z[2], -1.0, 1.0));
-    let theta = atan2(dot(x, north_at(ra, dec)), dot(x, east_at(ra)));
+    let [east, north, _] = plane_at(Sky { ra, dec });
+    let theta = atan2(dot(x, north), dot(x, east));
     Pose {
         theta,
         ra,
@@ -106,50 +86,60 @@ pub fn start_pose(rotation: [[f32; 3]; 3], scale: f64) -> Pose
 
 // ---- the radii of the re-association, the same in every round
 
-pub fn requery_margin(k: Settings) -> f64
-    ensures { result ≡ requery_margin (fixed_of k) }
-{
-    k.radius * 2.0
-}
+impl Settings {
+    #[tactic(auto, unfolding(crate::specs::Fixed::requery_margin))]
+    pub fn requery_margin(&self) -> f64
+        ensures { result ≡ requery_margin (fixed_of self.now) }
+    {
+        self.radius * 2.0
+    }
 
-pub fn search_radius(k: Settings) -> f64
-    ensures { result ≡ search_radius (fixed_of k) }
-{
-    max(k.scale * k.far * 1.5, k.radius * 2.0)
-}
+    #[tactic(auto, unfolding(crate::specs::Fixed::search_radius))]
+    pub fn search_radius(&self) -> f64
+        ensures { result ≡ search_radius (fixed_of self.now) }
+    {
+        max(self.scale * self.far * 1.5, self.radius * 2.0)
+    }
 
-pub fn requery_cos(k: Settings) -> f64
-    ensures { result ≡ requery_cos (fixed_of k) }
-{
-    cos(requery_margin(k))
-}
+    #[tactic(auto, unfolding(crate::specs::Fixed::requery_cos))]
+    pub fn requery_cos(&self) -> f64
+        ensures { result ≡ requery_cos (fixed_of self.now) }
+    {
+        cos(self.requery_margin())
+    }
 
-pub fn radius_px(k: Settings) -> f64
-    ensures { result ≡ radius_px (fixed_of k) }
-{
-    k.radius / k.scale
-}
+    #[tactic(auto, unfolding(crate::specs::Fixed::radius_px))]
+    pub fn radius_px(&self) -> f64
+        ensures { result ≡ radius_px (fixed_of self.now) }
+    {
+        self.radius / self.scale
+    }
 
-pub fn prune_r(k: Settings) -> f64
-    ensures { result ≡ prune_r (fixed_of k) }
-{
-    k.far + radius_px(k)
-}
+    #[tactic(auto, unfolding(crate::specs::Fixed::prune_r))]
+    pub fn prune_r(&self) -> f64
+        ensures { result ≡ prune_r (fixed_of self.now) }
+    {
+        self.far + self.radius_px()
+    }
 
-pub fn margin_px(k: Settings) -> f64
-    ensures { result ≡ margin_px (fixed_of k) }
-{
-    requery_margin(k) / k.scale
-}
+    #[tactic(auto, unfolding(crate::specs::Fixed::margin_px))]
+    pub fn margin_px(&self) -> f64
+        ensures { result ≡ margin_px (fixed_of self.now) }
+    {
+        self.requery_margin() / self.scale
+    }
 
-pub fn keep_r(k: Settings) -> f64
-    ensures { result ≡ keep_r (fixed_of k) }
-{
-    prune_r(k) + 3.0 * margin_px(k)
-}
+    #[tactic(auto, unfolding(crate::specs::Fixed::keep_r))]
+    pub fn keep_r(&self) -> f64
+        ensures { result ≡ keep_r (fixed_of self.now) }
+    {
+        self.prune_r() + 3.0 * self.margin_px()
+    }
 
-pub fn theta_margin(k: Settings) -> f64
-    ensures { result ≡ theta_margin (fixed_of k) }
-{
-    margin_px(k) / keep_r(k)
+    #[tactic(auto, unfolding(crate::specs::Fixed::theta_margin))]
+    pub fn theta_margin(&self) -> f64
+        ensures { result ≡ theta_margin (fixed_of self.now) }
+    {
+        self.margin_px() / self.keep_r()
+    }
 }

@@ -11,14 +11,12 @@ pub use bounds::{
     Weight,
 };
 pub use clearing::clear_all;
-pub use head::{
-    farthest_of, keep_r, margin_px, prune_r, radius_px, requery_cos, requery_margin, search_radius,
-    settings_of, start_pose, theta_margin,
-};
+pub use head::{farthest_of, settings_of, start_pose};
 pub use refusals::refusal_of;
 
 // All that the rounds read beside spots, directions and their state, of `count` directions. No code reads `capacity`, since the matcher measures
 // its own lists: it stands here so that the settings mean a `Fixed` (`fixed_of` in specs/Entry.antt).
+// Stays (no plainer): a ghost field holds a fact; a number it holds only in a struct with `also_owns`, which cannot be copied, as the settings are.
 #[derive(Clone, Copy)]
 pub struct Settings {
     pub scale: f64,

@@ -1,10 +1,10 @@
 // The checks on entry, refusals 5 to 11, 14 and 17, in stages by what they look at.
-ghost use Rattle.std.specs.Prelude.{◌≡◌, Bool, ◌/◌, ◌≤◌, length};
+ghost use Rattle.std.specs.Prelude.{◌≡◌, Bool, cond, ◌/◌, ◌≤◌, length, IfOk};
 ghost use Rattle.panel.specs.declared.Spot.{Spot};
 ghost use Rattle.panel.specs.Spots.{spot_numbers};
 ghost use Rattle.refusal.specs.Number.{number_given};
 ghost use Rattle.entry.specs.Check.{lawful_component, lawful_place, lawful_weight, every_spot, every, divides, few, rotation_fits, numbers_fit, weights_fit, named, long};
-ghost use Rattle.entry.specs.Check.{counts_refused, measures_refused, numbers_refused, weights_refused, names_refused, refusal_of};
+ghost use Rattle.entry.specs.Check.{counts_refused, measures_refused, numbers_refused, weights_refused, refusal_of};
 ghost use Rattle.entry.specs.Entry.{row_fits};
 
 use crate::bounds::{
@@ -13,7 +13,25 @@ use crate::bounds::{
 use panel::{SPOT_NUMBERS, Spot, spot_at};
 use refusal::Refusal;
 
+// How many spots, starting matches and directions a call lists: few, as 6 asks.
+#[derive(Clone, Copy)]
+struct Listed {
+    spots: usize,
+    matches: usize,
+    directions: usize,
+    ghost few: { (spots ≤ 4096) × (matches ≤ 4096) × (directions ≤ 65536) },
+}
+
+// The lengths of the lists that a call writes to and 11 looks at.
+#[derive(Clone, Copy)]
+struct Room {
+    numbers: usize,
+    floats: usize,
+    result_list: usize,
+}
+
 // 5, from the lists' lengths.
+// Stays (no plainer): the lengths come one by one until `counts` has found them few, and one `Listed` after it.
 #[tactic(auto, unfolding(crate::specs::Check::divides))]
 fn divides(spots: usize, matches: usize, directions: usize) -> bool
     ensures { result ≡ divides spots matches directions }
@@ -112,36 +130,36 @@ fn are_named(matches: &[usize], spots: usize, directions: usize) -> bool
     true
 }
 
-// 11, from the counts, which are few, and the lent lists' lengths.
+// 11.
 #[tactic(auto, unfolding(crate::specs::Check::long))]
-fn are_long(
-    spots: usize,
-    matches: usize,
-    directions: usize,
-    limit: usize,
-    numbers: usize,
-    floats: usize,
-    result_list: usize,
-) -> bool
-    requires { (spots ≤ 4096) × (matches ≤ 4096) × (directions ≤ 65536) }
-    ensures { result ≡ long spots matches directions limit numbers floats result_list }
+fn are_long(n: Listed, limit: usize, room: Room) -> bool
+    ensures { result ≡ long n.spots n.matches n.directions limit room.numbers room.floats room.result_list }
 {
-    let work = 16 * (spots + matches + directions);
-    work <= numbers && work <= floats && 2 * matches.max(spots.min(limit)) <= result_list
+    let work = 16 * (n.spots + n.matches + n.directions);
+    let results = 2 * n.matches.max(n.spots.min(limit));
+    work <= room.numbers && work <= room.floats && results <= room.result_list
 }
 
 // 5 and 6, from the lists' lengths.
 #[tactic(auto, unfolding(crate::specs::Check::counts_refused))]
-fn counts(spots: usize, matches: usize, directions: usize, rounds: usize) -> Result<(), Refusal>
-    ensures { number_given result ≡ counts_refused spots matches directions rounds }
+fn counts(spots: usize, matches: usize, directions: usize, rounds: usize) -> Result<Listed, Refusal>
+    ensures number { number_given result ≡ counts_refused spots matches directions rounds }
+    ensures counts { IfOk result (λ n. (n.spots ≡ spots / spot_numbers) × (n.matches ≡ matches / 2) × (n.directions ≡ directions / 3)) }
 {
     if !divides(spots, matches, directions) {
         return Err(Refusal::Uneven);
     }
-    if !are_few(spots / SPOT_NUMBERS, matches / 2, directions / 3, rounds) {
+    let n = spots / SPOT_NUMBERS;
+    let m = matches / 2;
+    let d = directions / 3;
+    if !are_few(n, m, d, rounds) {
         return Err(Refusal::TooMany);
     }
-    Ok(())
+    Ok(Listed {
+        spots: n,
+        matches: m,
+        directions: d,
+    })
 }
 
 // 7, 8 and 14.
@@ -184,25 +202,16 @@ fn weights(spots: &[f64]) -> Result<(), Refusal>
     Ok(())
 }
 
-// 10 and 11, from the counts, which are few.
-#[tactic(auto, unfolding(crate::specs::Check::names_refused))]
-fn names(
-    matches: &[usize],
-    spots: usize,
-    directions: usize,
-    limit: usize,
-    numbers: usize,
-    floats: usize,
-    result_list: usize,
-) -> Result<(), Refusal>
-    requires { (spots ≤ 4096) × (length matches.now / 2 ≤ 4096) × (directions ≤ 65536) }
-    ensures { number_given result ≡ names_refused matches.now spots directions limit numbers floats result_list }
+// 10 and 11.
+fn names(matches: &[usize], n: Listed, limit: usize, room: Room) -> Result<(), Refusal>
+    ensures { number_given result ≡ cond (named n.spots n.directions matches.now)
+        (cond (long n.spots n.matches n.directions limit room.numbers room.floats room.result_list) 0 11)
+        10 }
 {
-    if !are_named(matches, spots, directions) {
+    if !are_named(matches, n.spots, n.directions) {
         return Err(Refusal::UnknownMatch);
     }
-    let m = matches.len() / 2;
-    if are_long(spots, m, directions, limit, numbers, floats, result_list) {
+    if are_long(n, limit, room) {
         return Ok(());
     }
     Err(Refusal::ShortList)
@@ -212,6 +221,7 @@ fn names(
 // A function by itself: as a part of the call, what a refusal answers is made ready for each component that is looked at.
 // Stays (form of 01): the lists and numbers of a call come flat, each by itself, in the call's own order.
 #[inline(never)]
+#[tactic(auto, unfolding(crate::specs::Check::refusal_of, crate::specs::Check::names_refused))]
 pub fn refusal_of(
     spots: &[f64],
     matches: &[usize],
@@ -230,17 +240,14 @@ pub fn refusal_of(
         ≡ refusal_of spots.now matches.now directions.now rotation scale radius cut
         limit rounds numbers floats result_list }
 {
-    counts(spots.len(), matches.len(), directions.len(), rounds)?;
+    let n = counts(spots.len(), matches.len(), directions.len(), rounds)?;
     measures(scale, radius, cut)?;
     numerals(spots, directions, rotation)?;
     weights(spots)?;
-    names(
-        matches,
-        spots.len() / SPOT_NUMBERS,
-        directions.len() / 3,
-        limit,
+    let room = Room {
         numbers,
         floats,
         result_list,
-    )
+    };
+    names(matches, n, limit, room)
 }

@@ -1,5 +1,5 @@
 -- What the exported matcher hands back, carried from what the matcher leaves. Assumes nothing.
-use Rattle.std.proofs.Common.{◌≡◌, ℕ, Bool, true, false, cond, ltb, List, length, refl, sym, ap₂, subst, ◌∙◌, set, arith}
+use Rattle.std.proofs.Common.{◌≡◌, ℕ, Bool, true, false, cond, ltb, List, length, refl, sym, ap₂, subst, ◌∙◌, set}
 use lib.Ieee.{Float}
 use Rattle.pairs.specs.Pairs.{pairs}
 use Rattle.pairs.specs.Candidates.{capacity}

@@ -5,7 +5,6 @@ ghost use Rattle.wcs_refine.specs.Returned.{lists, called, numbered, handed};
 ghost use Rattle.exports.specs.Refined.{rows_of, counts, values, set_from, RefinedTo};
 
 use crate::places::put_all;
-use fit::Pose;
 use panel::three_at;
 use refusal::{Refusal, number_given};
 use wcs_refine::WcsRefineResult;
@@ -26,25 +25,7 @@ fn rotation_of(entries: &[f32]) -> [[f32; 3]; 3]
 fn beside_the_number(answer: Result<WcsRefineResult, Refusal>) -> WcsRefineResult
     ensures { numbered (number_given answer) result ≡ handed answer }
 {
-    match answer {
-        Ok(r) => r,
-        Err(_) => WcsRefineResult {
-            matches: 0,
-            rounds: 0,
-            passes: 0,
-            queries: 0,
-            comparisons: 0,
-            pose: Pose {
-                theta: 0.0,
-                ra: 0.0,
-                dec: 0.0,
-                scale: 0.0,
-            },
-            cd: [[0.0; 2]; 2],
-            rmse_rad: 0.0,
-            cov: [[0.0; 3]; 3],
-        },
-    }
+    answer.unwrap_or_default()
 }
 
 // Matches, rounds, passes, queries, and the most comparisons of a round.

@@ -10,25 +10,12 @@ use record::Header;
 use refusal::{Refusal, number_given};
 
 // Beside the number of a refusal all is zero.
+// Stays (no plainer): one function for this and that of call.rt would need a trait to say what `numbered` and `handed` are of each, and be longer.
 #[tactic(auto, unfolding(record::specs::Header::handed))]
 fn beside_the_number(answer: Result<Header, Refusal>) -> Header
     ensures { numbered (number_given answer) result ≡ handed answer }
 {
-    match answer {
-        Ok(h) => h,
-        Err(_) => Header {
-            spots: 0,
-            matches: 0,
-            directions: 0,
-            mirror: false,
-            scale: 0.0,
-            radius: 0.0,
-            cut: 0.0,
-            limit: 0,
-            rounds: 0,
-            rotation: [[0.0; 3]; 3],
-        },
-    }
+    answer.unwrap_or_default()
 }
 
 // The counts of spots, matches and directions, the mirror as 1 or 0, the matching limit, the rounds.

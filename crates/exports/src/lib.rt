@@ -1,6 +1,6 @@
 // The functions for C and Rust to link (tools/build/library). Each hands its arguments to the function of the same name and promises the same. A NaN
 // that they answer or write has the bits 7FF8000000000000 (f32: 7FC00000).
-// Stays (C interface): C has no generic function and no slice, so each width has a name and each list a pointer and a length of its own.
+// Stays (C interface): a C name has one type, so the two roots here, one function of `rounding`, are a name for each width.
 #![tactic(auto)]
 
 mod parts; // parts.rt: the median and the matcher

@@ -16,6 +16,7 @@ impl HandedOut for usize {
     }
 }
 
+// Stays (no plainer): this and the next are alike but for the width; what the two share is a trait that `rounding` does not hand out.
 impl HandedOut for f64 {
     fn made_here(self) -> f64 {
         canonical(self)

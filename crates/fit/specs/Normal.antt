@@ -78,7 +78,7 @@ unfoldable pub right_side : Bool → View → Spot → Float → Float → Plane
 unfolding predict_tanplane
 right_side false w c xi eta = record { xi = zero64; eta = zero64 }
 right_side true w c xi eta =
-    let p = predict_tanplane c.px c.py w.cos_t w.sin_t w.ps in
+    let p = predict_tanplane c.px c.py w.roll.cos_t w.roll.sin_t w.roll.ps in
     record { xi = xi ⊖ p.xi; eta = eta ⊖ p.eta }
 
 -- The code's side: what `gives` brings, by the spot of a match and its direction's plane point, is the right side of a fit or of a normal matrix.
@@ -94,7 +94,7 @@ with_match fitting w t c (Some p) =
     let r = right_side fitting w c p.xi p.eta in
     record {
       sums =
-          accumulate_normal_equations t.sums c.px c.py c.weight w.cos_t w.sin_t w.ps r.xi r.eta;
+          accumulate_normal_equations t.sums c.px c.py c.weight w.roll.cos_t w.roll.sin_t w.roll.ps r.xi r.eta;
       n = t.n + 1;
     }
 

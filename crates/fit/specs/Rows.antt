@@ -53,8 +53,6 @@ unfoldable pub view_of : Pose → Float → View
 unfolding tan_basis sin cos
 view_of p cut = record {
   basis = tan_basis p.ra p.dec;
-  cos_t = cos p.theta;
-  sin_t = sin p.theta;
-  ps = p.scale;
+  roll = record { cos_t = cos p.theta; sin_t = sin p.theta; ps = p.scale };
   cut = cut;
 }

@@ -1,6 +1,10 @@
 // The fit of wcs_refine.rs: what a match brings to it, the normal equations, and one pass.
 #![tactic(auto)]
 
+ghost use Rattle.std.specs.Prelude.{◌≡◌};
+
+use project::{Roll, Sky};
+
 mod rows; // rows.rt: what a match brings to the fit
 mod normal; // normal.rt: the normal equations, and one pass of the fit
 
@@ -8,7 +12,7 @@ pub use normal::{accumulate_normal_equations, ls_fit_once, normal_matrix};
 pub use rows::{direction_at, view_of};
 
 // The pose: roll, the boresight's right ascension and declination, and the pixel scale, in radians and radians per pixel.
-#[derive(Clone, Copy)]
+#[derive(Clone, Copy, Default)]
 pub struct Pose {
     pub theta: f64,
     pub ra: f64,
@@ -16,14 +20,23 @@ pub struct Pose {
     pub scale: f64,
 }
 
-// What a pass computes once from the pose: the basis of its tangent plane, cosine and sine of the roll, and the scale. The plane cut stands
-// beside them.
+impl Pose {
+    // The boresight's point of the sky.
+    pub fn crval(&self) -> Sky
+        ensures { (result.ra ≡ self.now.ra) × (result.dec ≡ self.now.dec) }
+    {
+        Sky {
+            ra: self.ra,
+            dec: self.dec,
+        }
+    }
+}
+
+// What a pass computes once from the pose: the basis of its tangent plane, and the roll with the scale. The plane cut stands beside them.
 #[derive(Clone, Copy)]
 pub struct View {
     pub basis: [[f64; 3]; 3],
-    pub cos_t: f64,
-    pub sin_t: f64,
-    pub ps: f64,
+    pub roll: Roll,
     pub cut: f64,
 }
 

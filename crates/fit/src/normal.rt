@@ -7,7 +7,7 @@ ghost use Rattle.fit.specs.Normal.{added, added_row, accumulated_by, accumulate_
 use crate::rows::{direction_at, view_of};
 use crate::{Counted, Pose, Sums, View};
 use panel::{Spot, spot_at};
-use project::{Plane, predict_tanplane, tan_project_vec};
+use project::{Plane, Roll, predict_tanplane, tan_project_vec};
 use solve::{Solution, solve_3x3};
 
 // What a match adds to one entry is one sum, multiplied by the weight of its spot.
@@ -17,67 +17,64 @@ fn added(old: f64, weight: f64, a: f64, b: f64, c: f64, d: f64) -> f64
     old + weight * (a * b + c * d)
 }
 
+// The rows of a match's Jacobian, with the weight of its spot.
+#[derive(Clone, Copy)]
+struct Jacobian {
+    weight: f64,
+    xi: [f64; 3],
+    eta: [f64; 3],
+}
+
 #[tactic(auto, unfolding(crate::specs::Normal::added_row))]
-fn added_row(old: [f64; 3], weight: f64, a: f64, jxi: [f64; 3], c: f64, jeta: [f64; 3]) -> [f64; 3]
-    ensures { result ≡ added_row old weight a jxi c jeta }
+fn added_row(old: [f64; 3], a: f64, c: f64, j: Jacobian) -> [f64; 3]
+    ensures { result ≡ added_row old j.weight a j.xi c j.eta }
 {
-    let x = added(old[0], weight, a, jxi[0], c, jeta[0]);
-    let y = added(old[1], weight, a, jxi[1], c, jeta[1]);
-    let z = added(old[2], weight, a, jxi[2], c, jeta[2]);
+    let x = added(old[0], j.weight, a, j.xi[0], c, j.eta[0]);
+    let y = added(old[1], j.weight, a, j.xi[1], c, j.eta[1]);
+    let z = added(old[2], j.weight, a, j.xi[2], c, j.eta[2]);
     [x, y, z]
 }
 
 // The same for the right side.
-fn added_side(
-    old: [f64; 3],
-    weight: f64,
-    jxi: [f64; 3],
-    r_xi: f64,
-    jeta: [f64; 3],
-    r_eta: f64,
-) -> [f64; 3]
-    ensures { result ≡ added (at old 0) weight (at jxi 0) r_xi (at jeta 0) r_eta
-        ∷ added (at old 1) weight (at jxi 1) r_xi (at jeta 1) r_eta
-        ∷ added (at old 2) weight (at jxi 2) r_xi (at jeta 2) r_eta
+// Stays (no plainer): `added_row` with r for a and c has the factors of each product the other way round, and their order is the Rust's.
+fn added_side(old: [f64; 3], j: Jacobian, r: Plane) -> [f64; 3]
+    ensures { result ≡ added (at old 0) j.weight (at j.xi 0) r.xi (at j.eta 0) r.eta
+        ∷ added (at old 1) j.weight (at j.xi 1) r.xi (at j.eta 1) r.eta
+        ∷ added (at old 2) j.weight (at j.xi 2) r.xi (at j.eta 2) r.eta
         ∷ [] }
 {
-    let x = added(old[0], weight, jxi[0], r_xi, jeta[0], r_eta);
-    let y = added(old[1], weight, jxi[1], r_xi, jeta[1], r_eta);
-    let z = added(old[2], weight, jxi[2], r_xi, jeta[2], r_eta);
+    let x = added(old[0], j.weight, j.xi[0], r.xi, j.eta[0], r.eta);
+    let y = added(old[1], j.weight, j.xi[1], r.xi, j.eta[1], r.eta);
+    let z = added(old[2], j.weight, j.xi[2], r.xi, j.eta[2], r.eta);
     [x, y, z]
 }
 
-// With the weight and the rows of the Jacobian given.
 #[tactic(auto, unfolding(crate::specs::Normal::accumulated_by))]
-fn accumulated_by(s: Sums, weight: f64, jxi: [f64; 3], jeta: [f64; 3], r: Plane) -> Sums
-    ensures { result ≡ accumulated_by s weight jxi jeta r.xi r.eta }
+fn accumulated_by(s: Sums, j: Jacobian, r: Plane) -> Sums
+    ensures { result ≡ accumulated_by s j.weight j.xi j.eta r.xi r.eta }
 {
     let [ata0, ata1, ata2] = s.ata;
     Sums {
         ata: [
-            added_row(ata0, weight, jxi[0], jxi, jeta[0], jeta),
-            added_row(ata1, weight, jxi[1], jxi, jeta[1], jeta),
-            added_row(ata2, weight, jxi[2], jxi, jeta[2], jeta),
+            added_row(ata0, j.xi[0], j.eta[0], j),
+            added_row(ata1, j.xi[1], j.eta[1], j),
+            added_row(ata2, j.xi[2], j.eta[2], j),
         ],
-        atb: added_side(s.atb, weight, jxi, r.xi, jeta, r.eta),
+        atb: added_side(s.atb, j, r),
     }
 }
 
 // What a match adds to the normal equations: its spot pulls by its weight, and r is what is left from the spot's plane point to the direction's.
 #[tactic(auto, unfolding(crate::specs::Normal::accumulate_normal_equations, crate::specs::Normal::xi_theta, crate::specs::Normal::eta_theta))]
-pub fn accumulate_normal_equations(
-    s: Sums,
-    c: Spot,
-    cos_t: f64,
-    sin_t: f64,
-    ps: f64,
-    r: Plane,
-) -> Sums
-    ensures { result ≡ accumulate_normal_equations s c.px c.py c.weight cos_t sin_t ps r.xi r.eta }
+pub fn accumulate_normal_equations(s: Sums, c: Spot, t: Roll, r: Plane) -> Sums
+    ensures { result ≡ accumulate_normal_equations s c.px c.py c.weight t.cos_t t.sin_t t.ps r.xi r.eta }
 {
-    let jxi = [ps * (-sin_t * c.px - cos_t * c.py), 1.0, 0.0];
-    let jeta = [ps * (cos_t * c.px - sin_t * c.py), 0.0, 1.0];
-    accumulated_by(s, c.weight, jxi, jeta, r)
+    let j = Jacobian {
+        weight: c.weight,
+        xi: [t.ps * (-t.sin_t * c.px - t.cos_t * c.py), 1.0, 0.0],
+        eta: [t.ps * (t.cos_t * c.px - t.sin_t * c.py), 0.0, 1.0],
+    };
+    accumulated_by(s, j, r)
 }
 
 // What is left from the spot's plane point to the direction's: the right side that a match brings to a fit.
@@ -85,7 +82,7 @@ pub fn accumulate_normal_equations(
 fn right_side(w: &View, c: Spot, p: Plane) -> Plane
     ensures { result ≡ right_side true w.now c p.xi p.eta }
 {
-    let q = predict_tanplane(c.px, c.py, w.cos_t, w.sin_t, w.ps);
+    let q = predict_tanplane(c.px, c.py, w.roll);
     Plane {
         xi: p.xi - q.xi,
         eta: p.eta - q.eta,
@@ -93,6 +90,7 @@ fn right_side(w: &View, c: Spot, p: Plane) -> Plane
 }
 
 // The sums with one match more, if its direction lies in front of the plane. `brings` makes its right side.
+#[tactic(auto, unfolding(crate::specs::Normal::with_row, crate::specs::Normal::with_match))]
 fn with_row<F: Fn(Spot, Plane) -> Plane>(
     brings: &F,
     w: &View,
@@ -110,7 +108,7 @@ fn with_row<F: Fn(Spot, Plane) -> Plane>(
     };
     let r = brings(c, p);
     Counted {
-        sums: accumulate_normal_equations(s.sums, c, w.cos_t, w.sin_t, w.ps, r),
+        sums: accumulate_normal_equations(s.sums, c, w.roll, r),
         n: s.n + 1,
     }
 }
@@ -130,6 +128,8 @@ fn no_matches() -> Counted
 }
 
 // The sums over all matches, with the right sides that `brings` makes.
+// Stays (form of 01): spots, directions and matches are handed on as its callers are lent them: flat lists, each by itself.
+#[tactic(auto, unfolding(crate::specs::Rows::rows, crate::specs::Normal::no_matches))]
 fn summed<F: Fn(Spot, Plane) -> Plane>(
     brings: F,
     matches: &[usize],

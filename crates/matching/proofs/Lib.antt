@@ -1,4 +1,5 @@
 pub mod Runs
+pub mod Halves
 pub mod Heads
 pub mod Passes
 pub mod Counting

@@ -7,24 +7,29 @@ use native.Mathlib.Nat.{not-suc-le-zero, zero-add}
 use native.Mathlib.Omega.{arith}
 use borrow.Author.Tests.{lt-ltb, le-ltb}
 use lib.Ieee.{Float}
-use mathlib.Core.Bool.{Bool, true, false, ◌||◌}
+use mathlib.Core.Bool.{false, ◌||◌}
 use lib.Dec.{ltb}
 use lib.ListN.{length, take, drop, get_or, replicate, length-append, length-drop, length-replicate, replicate-append-replicate}
 use lib.Seq.{slice, length-slice, get_or-take, get_or-drop, take_at, drop_at, take-length, drop-length}
 use Rattle.rounding.specs.Arith.{zero64}
-use Rattle.std.specs.Prelude.{Result, Ok, Err}
+use Rattle.std.specs.Prelude.{⊤, Option, Some, None, Result, Ok, Err}
 use Rattle.refusal.specs.declared.Refusal.{Refusal}
-use Rattle.refusal.specs.declared.Refusal.TheVariants.{ShortList}
-use Rattle.pairs.specs.Pairs.{Pair, pairs, pairs_from, spots_within}
+use Rattle.refusal.specs.declared.Refusal.TheVariants.{ManyPairs, ShortList}
+use Rattle.pairs.specs.Pairs.{Pair, pairs, spots_within}
 use Rattle.pairs.specs.Elements.{All}
 use Rattle.pairs.specs.Candidates.{capacity, Inside, nothing, laid, Beyond, found, pushed}
+use Rattle.pairs.specs.Lent.{held, found_in, how_many, Tried}
+use Rattle.pairs.specs.declared.candidates.Candidates.{Candidates}
 use Rattle.pairs.specs.Strips.{strip_room, pairs_nearby, room_after}
 use Rattle.pairs.specs.Spots.{by_spot, put_behind, Put}
 use Rattle.lists.specs.Cleared as clearing
 use Rattle.matching.specs.Merge.{not_after, merged}
 use Rattle.matching.specs.Comparisons.{comparisons}
 use Rattle.matching.specs.Greedy.{Outcome, assigned, flat, cleared, cleared_n, needed, placed, overfull, matches_of, greedy_unique_matches, greedy_by_strips}
-use Rattle.matching.specs.Layout.{taking, Taking, offers, outcome, concluded}
+use Rattle.matching.specs.Layout.{taking, Taking, offers, outcome}
+use Rattle.matching.specs.Halves.{begin, standing}
+use Rattle.matching.specs.declared.half.Half.{Half}
+use Rattle.matching.specs.declared.half.Half.TheVariants.{First, Second}
 use Rattle.lists.proofs.Cases.{below_or}
 use Rattle.lists.proofs.Clearing.{cleared_within}
 use Rattle.pairs.proofs.Laying.{laid_get, laid_long, later, then}
@@ -105,192 +110,221 @@ module _ (cap : ℕ) (ps : List Pair) (d : List Float) (ix : List ℕ) (ld : cap
       (λ (q : length ps ≤ cap). (q, (filled q).0, (filled q).1, (filled q).2))
       (below_or cap (length ps))
 
--- r pairs were found. Where they are at most `cap`, they are the pairs within the radius of the first np spots and the predictions, by spot and then
--- prediction, and stand from place `from` on; else there are more than `cap` of those.
-pub record Gathered (np cap : ℕ) (r2 : Float) (points predicted : List Float) (d : List Float) (ix : List ℕ) (d' : List Float) (ix' : List ℕ) (r from : ℕ) : Type 0 where
-  pub over : cap < r → (cap < length (pairs_from r2 points predicted 0 np)) × Beyond cap d ix d' ix'
-  pub fit : r ≤ cap
-      → (slice from (from + r) (laid d' ix') ≡ pairs_from r2 points predicted 0 np) × (r ≡ length (pairs_from r2 points predicted 0 np)) × Beyond (2 * r) d ix d' ix'
+-- ---- after a search
 
-module _ (points : List Float) (limit : ℕ) (predicted : List Float) (r2 : Float) (d : List Float) (ix : List ℕ)
-    (np cap : ℕ) (spots : np ≡ spots_within points limit) (most : cap ≡ capacity d ix) (d' : List Float) (ix' : List ℕ) (r : ℕ) where
+-- More pairs than the lists hold were found, and nothing behind those was written,
+pub record Over (ps : List Pair) (c₀ c : Candidates) : Type 0 where
+  pub more : c₀.cap < length ps
+  pub beyond : Beyond c₀.cap c₀.distances.now c₀.indices.now c.distances.now c.indices.now
+
+-- or all of them stand in a half, and nothing behind the halves was written.
+pub record Gathered (ps : List Pair) (c₀ c : Candidates) (h : Half) : Type 0 where
+  pub fits : c.n ≤ c₀.cap
+  pub stand : standing h c ≡ ps
+  pub count : c.n ≡ length ps
+  pub beyond : Beyond (2 * c.n) c₀.distances.now c₀.indices.now c.distances.now c.indices.now
+
+module _ (ps : List Pair) {c₀ c : Candidates} {a : Option ⊤} (none : c₀.n ≡ 0) (did : Tried c₀ a c (pushed c₀.cap (found_in c₀) ps)) where
+  over : a ≡ None → Over ps c₀ c
+  unfolding how_many
+  over e =
+      let t : Tried c₀ None c (pushed c₀.cap (found_in c₀) ps) = rw e at did in
+      let made : found (c.cap + 1) c.distances.now c.indices.now ≡ pushed c₀.cap (found 0 c₀.distances.now c₀.indices.now) ps = rw none at t.pairs in
+      let f = too_full c₀.cap ps c₀.distances.now c₀.indices.now (omega (arith, c₀.fits)) (omega (arith, c₀.fits)) (c.cap + 1) c.distances.now c.indices.now made
+      (omega (arith, did.same.cap)) in
+      record { more = f.0; beyond = f.1 }
+
+  there : {u : ⊤} → a ≡ Some u → (take c.n (held c) ≡ ps) × (c.n ≡ length ps) × Beyond c.n c₀.distances.now c₀.indices.now c.distances.now c.indices.now
+  unfolding how_many
+  there {u} e =
+      let t : Tried c₀ (Some u) c (pushed c₀.cap (found_in c₀) ps) = rw e at did in
+      let made : found c.n c.distances.now c.indices.now ≡ pushed c₀.cap (found 0 c₀.distances.now c₀.indices.now) ps = rw none at t.pairs in
+      let f = all_there c₀.cap ps c₀.distances.now c₀.indices.now (omega (arith, c₀.fits)) (omega (arith, c₀.fits)) c.n c.distances.now c.indices.now made
+      (omega (arith, c.few, did.same.cap)) in
+      (f.1, f.2, f.3)
+
+module _ (points : List Float) (limit : ℕ) (predicted : List Float) (r2 : Float) where
   abbrev ps : List Pair
-  ps = pairs_from r2 points predicted 0 np
+  ps = pairs points limit predicted r2
 
-  -- all pairs, found in their own order
-  pub in_turn : found r d' ix' ≡ pushed (capacity d ix) (found 0 d ix) (pairs points limit predicted r2) → Gathered np cap r2 points predicted d ix d' ix' r 0
-  unfolding pairs
-  in_turn did =
-      let made : found r d' ix' ≡ pushed cap (found 0 d ix) ps = rw (spots, most) did in
-      record {
-        over = too_full cap ps d ix (omega arith) (omega arith) r d' ix' made;
-        fit = λ h.
-            let f = all_there cap ps d ix (omega arith) (omega arith) r d' ix' made h in
-            (rw (zero-add r) f.1, f.2, later (2 * r) (omega arith) f.3);
-      }
+  -- the spots within the limit are as many within their own number
+  again : spots_within points (spots_within points limit) ≡ spots_within points limit
+  again = omega arith
 
-  -- and those found by strips, put by spot behind themselves
-  module _ (places : ℕ) (did : found r d' ix' ≡ pushed (capacity d ix) (found 0 d ix) (pairs_nearby points limit predicted r2 places))
-      (kd : length d' ≡ length d) (ki : length ix' ≡ length ix) (e : List Float) (jx v v' : List ℕ) (put : Put r np d' ix' v e jx v') (lw : np ≤ length v) where
-    abbrev list : List Pair
-    list = pairs_nearby points limit predicted r2 places
+  module _ {c₀ c : Candidates} {a : Option ⊤} (none : c₀.n ≡ 0) (np : ℕ) (spots : np ≡ spots_within points limit) where
+    -- all pairs, found in their own order
+    module _ (did : Tried c₀ a c (pushed c₀.cap (found_in c₀) (pairs points np predicted r2))) where
+      found_all : Tried c₀ a c (pushed c₀.cap (found_in c₀) ps)
+      unfolding pairs
+      found_all = rw (spots, again) at did
 
-    made : found r d' ix' ≡ pushed cap (found 0 d ix) list
-    made = rw most did
+      pub over_in_turn : a ≡ None → Over ps c₀ c
+      over_in_turn e = over ps none found_all e
 
-    as_many : length list ≡ length ps
-    unfolding pairs
-    as_many = rw spots (same_length list (pairs points limit predicted r2) (nearby_same points limit predicted r2 places))
+      pub in_turn : {u : ⊤} → a ≡ Some u → Gathered ps c₀ c First
+      unfolding begin
+      in_turn e =
+          let f = there ps none found_all e in
+          record {
+            fits = omega (arith, c.few, did.same.cap);
+            stand = rw (zero-add c.n) f.0;
+            count = f.1;
+            beyond = later (2 * c.n) (omega arith) f.2;
+          }
 
-    sorted : by_spot 0 np list ≡ ps
-    unfolding pairs
-    sorted = rw spots (nearby_by_spot points limit predicted r2 places)
+    -- and those found by strips, put by spot behind themselves
+    module _ (places : ℕ) (did : Tried c₀ a c (pushed c₀.cap (found_in c₀) (pairs_nearby points np predicted r2 places))) where
+      abbrev list : List Pair
+      list = pairs_nearby points limit predicted r2 places
 
-    -- whether they were left where they were found
-    abbrev left : Bool
-    left = ltb (capacity d' ix') r || ltb (length v) np
+      found_near : Tried c₀ a c (pushed c₀.cap (found_in c₀) list)
+      unfolding pairs_nearby pairs
+      found_near = rw (spots, again) at did
 
-    too_many_found : cap < r → (cap < length ps) × Beyond cap d ix e jx
-    too_many_found h =
-        let f = too_full cap list d ix (omega arith) (omega arith) r d' ix' made h in
-        let t : left ≡ true = rw (kd, ki, ← most, lt-ltb cap r h) refl in
-        (omega (arith, as_many, f.0), then f.1 (later cap (omega arith) (rw t at put.others)))
+      as_many : length list ≡ length ps
+      as_many = same_length list ps (nearby_same points limit predicted r2 places)
 
-    moved : r ≤ cap → left ≡ false
-    moved h = rw (kd, ki, ← most, le-ltb cap r h, le-ltb (length v) np lw) refl
+      sorted : by_spot 0 np list ≡ ps
+      sorted = rw spots (nearby_by_spot points limit predicted r2 places)
 
-    stand : r ≤ cap → take r (laid d' ix') ≡ list → laid e jx ≡ list ++ ps ++ drop (r + length ps) (laid d' ix')
-    unfolding put_behind
-    stand h f = rw (moved h, f, sorted) at put.moved
+      pub over_by_strips : a ≡ None → Over ps c₀ c
+      over_by_strips e =
+          let f = over list none found_near e in
+          record { more = omega (arith, f.more, as_many); beyond = f.beyond }
 
-    all_found : r ≤ cap → (slice r (r + r) (laid e jx) ≡ ps) × (r ≡ length ps) × Beyond (2 * r) d ix e jx
-    all_found h =
-        let f = all_there cap list d ix (omega arith) (omega arith) r d' ix' made h in
-        let count = f.2 ∙ as_many in
-        let rest = drop (r + length ps) (laid d' ix') in (
-          rw (stand h f.1, take_at (list ++ ps) rest (r + r) (omega (arith, length-append list ps))) (drop_at list ps r (sym f.2)),
-          count,
-          then (later (2 * r) (omega arith) f.3) (rw (moved h) at put.others),
-        )
+      module _ (c' : Candidates) (v v' : List ℕ) (many : c'.n ≡ c.n) (put : Put c.n np c.distances.now c.indices.now v c'.distances.now c'.indices.now v')
+          (lw : np ≤ length v) where
+        moved : (ltb (capacity c.distances.now c.indices.now) c.n || ltb (length v) np) ≡ false
+        moved = rw (le-ltb (capacity c.distances.now c.indices.now) c.n (omega (arith, c.fits, c.few)), le-ltb (length v) np lw) refl
 
-    pub by_strips : Gathered np cap r2 points predicted d ix e jx r r
-    by_strips = record { over = too_many_found; fit = all_found }
+        stand : take c.n (held c) ≡ list → held c' ≡ list ++ ps ++ drop (c.n + length ps) (held c)
+        unfolding put_behind
+        stand f = rw (moved, f, sorted) at put.moved
 
--- ---- the whole call
+        pub by_strips : {u : ⊤} → a ≡ Some u → Gathered ps c₀ c' Second
+        unfolding begin
+        by_strips e =
+            let f = there list none found_near e in
+            let rest = drop (c.n + length ps) (held c) in
+            record {
+              fits = omega (arith, c.few, did.same.cap, many);
+              stand = rw (many, stand f.0, take_at (list ++ ps) rest (c.n + c.n) (omega (arith, length-append list ps, f.1, as_many))) (drop_at list ps c.n (sym f.1));
+              count = many ∙ f.1 ∙ as_many;
+              beyond = rw many (then (later (2 * c.n) (omega arith) f.2) (rw moved at put.others));
+            }
 
--- The code's numbers: the spots that are looked at, and how many matches there can be.
-module _ (points : List Float) (limit : ℕ) (predicted : List Float) (r2 : Float) (d : List Float) (ix w : List ℕ)
-    (np least : ℕ) (spots : np ≡ spots_within points limit) (lesser : least ≡ min np (length predicted / 2)) where
-  pub too_short : length w < np + length predicted / 2 + 2 * least → outcome (Err ShortList) 0 d ix w ≡ greedy_unique_matches points limit predicted r2 d ix w
-  unfolding greedy_unique_matches
-  too_short h = rw (lt-ltb _ _ (rw (lesser, spots) at h))
+  -- ---- the whole call
 
-  pub too_short_for_strips : length w < 2 * np + np + length predicted / 2 + 2 * least → outcome (Err ShortList) 0 d ix w ≡ greedy_by_strips points limit predicted r2 d ix w
-  unfolding greedy_by_strips
-  too_short_for_strips h = rw (← spots, ← lesser, lt-ltb (length w) (2 * np + (np + length predicted / 2 + 2 * least)) (omega arith))
-
--- behind the strips the same is left as by the call without strips
-behind_strips : (points : List Float) (limit : ℕ) (predicted : List Float) (r2 : Float) (d : List Float) (ix w : List ℕ)
-    → strip_room points limit + needed points limit predicted ≤ length w → (o : Outcome)
-    → o ≡ greedy_unique_matches points limit predicted r2 d ix (drop (strip_room points limit) w)
-    → outcome o.answer o.comparisons o.distances o.indices (replicate (strip_room points limit) 0 ++ o.work) ≡ greedy_by_strips points limit predicted r2 d ix w
-unfolding greedy_by_strips
-behind_strips points limit predicted r2 d ix w fits o e =
-    rw (le-ltb (length w) _ fits) (ap (λ (o : Outcome). outcome o.answer o.comparisons o.distances o.indices (replicate (strip_room points limit) 0 ++ o.work)) e)
-
--- The pairs were gathered, and `cap` of them fit.
-module _ (points : List Float) (limit : ℕ) (predicted : List Float) (r2 : Float) (d : List Float) (ix : List ℕ)
-    (np cap : ℕ) (spots : np ≡ spots_within points limit) (most : cap ≡ capacity d ix)
-    (r from : ℕ) (d' : List Float) (ix' : List ℕ) (did : Gathered np cap r2 points predicted d ix d' ix' r from) where
-  abbrev nq : ℕ
-  nq = length predicted / 2
-
-  -- where they all fit, they are what is ordered and assigned
-  pub given : r ≤ cap → All (Inside np nq) (slice from (from + r) (laid d' ix'))
-  given h = rw (did.fit h).0 (pairs_inside np r2 points predicted np 0 (omega arith))
-
-  module _ (w : List ℕ) (room : needed points limit predicted ≤ length w) where
-    too_many : cap < r → concluded np nq cap r from d' ix' w ≡ greedy_unique_matches points limit predicted r2 d ix w
-    unfolding concluded greedy_unique_matches pairs overfull
-    too_many h =
-        let f = did.over h in
-        rw (lt-ltb cap r h, le-ltb (length w) _ room, ← spots, ← most, lt-ltb cap _ f.0)
+  module _ {c₀ c : Candidates} (w : List ℕ) (room : needed points limit predicted ≤ length w) where
+    pub over_whole : Over ps c₀ c
+        → outcome (Err ManyPairs) 0 (cleared c₀.cap c.distances.now) (cleared_n (2 * c₀.cap) c.indices.now) w
+        ≡ greedy_unique_matches points limit predicted r2 c₀.distances.now c₀.indices.now w
+    unfolding greedy_unique_matches overfull
+    over_whole o =
+        rw (le-ltb (length w) _ room, ← c₀.fits, lt-ltb c₀.cap _ o.more)
         (same_outcome refl refl
-        (ap (λ (l : List Float). replicate cap zero64 ++ l) f.1.distances)
-        (ap (λ (l : List ℕ). replicate (2 * cap) 0 ++ l) f.1.indices)
+        (ap (λ (l : List Float). replicate c₀.cap zero64 ++ l) o.beyond.distances)
+        (ap (λ (l : List ℕ). replicate (2 * c₀.cap) 0 ++ l) o.beyond.indices)
         refl)
 
-    all_fit : r ≤ cap → concluded np nq cap r from d' ix' w ≡ greedy_unique_matches points limit predicted r2 d ix w
-    unfolding concluded greedy_unique_matches pairs matches_of placed
-    all_fit h =
-        let f = did.fit h in
-        let b = f.2 in
-        let e : 2 * (2 * r) ≡ 4 * r = omega arith in
-        let count = f.1 in
-        rw (le-ltb cap r h)
-        (ap (λ (l : List Pair). placed (np + nq) r (comparisons not_after l) (assigned [] (merged not_after l)) d' ix' w) f.0
-        ∙ rw (le-ltb (length w) _ room, ← spots, ← most, le-ltb cap (length (pairs_from r2 points predicted 0 np)) (omega arith), ← count)
+    pub placed_whole : {h : Half} → Gathered ps c₀ c h
+        → placed (spots_within points limit + length predicted / 2) c.n (comparisons not_after (standing h c)) (assigned [] (merged not_after (standing h c)))
+        c.distances.now c.indices.now w
+        ≡ greedy_unique_matches points limit predicted r2 c₀.distances.now c₀.indices.now w
+    unfolding greedy_unique_matches matches_of placed
+    placed_whole {h} g =
+        let e : 2 * (2 * c.n) ≡ 4 * c.n = omega arith in
+        rw g.stand
+        (rw (le-ltb (length w) _ room, ← c₀.fits, le-ltb c₀.cap (length ps) (omega (arith, g.count, g.fits)), ← g.count)
         (same_outcome refl refl
-        (ap (λ (l : List Float). replicate (2 * r) zero64 ++ l) b.distances)
-        (ap (λ (l : List ℕ). replicate (4 * r) 0 ++ l) (rw e at b.indices))
+        (ap (λ (l : List Float). replicate (2 * c.n) zero64 ++ l) g.beyond.distances)
+        (ap (λ (l : List ℕ). replicate (4 * c.n) 0 ++ l) (rw e at g.beyond.indices))
         refl))
 
-    -- so it is the same answer in both cases
-    concluded_whole : concluded np nq cap r from d' ix' w ≡ greedy_unique_matches points limit predicted r2 d ix w
-    concluded_whole = ⊎_elim too_many all_fit (below_or cap r)
+  -- where they all fit, they are what is ordered and assigned
+  pub given : {c₀ c : Candidates} {h : Half} → Gathered ps c₀ c h → All (Inside (spots_within points limit) (length predicted / 2)) (standing h c)
+  unfolding pairs
+  given g = rw g.stand (pairs_inside (spots_within points limit) r2 points predicted (spots_within points limit) 0 (omega arith))
 
-  -- the same, from the numbers that the code compares
-  pub answered : (w : List ℕ) (least : ℕ) → least ≡ min np nq → np + nq + 2 * least ≤ length w → (o : Outcome)
-      → o ≡ concluded np nq cap r from d' ix' w → o ≡ greedy_unique_matches points limit predicted r2 d ix w
-  answered w least lesser room o done = done ∙ concluded_whole w (rw (lesser, spots) at room)
+  -- a `work` list that is too short
+  module _ (d : List Float) (ix w : List ℕ) where
+    pub too_short : length w < needed points limit predicted → outcome (Err ShortList) 0 d ix w ≡ greedy_unique_matches points limit predicted r2 d ix w
+    unfolding greedy_unique_matches
+    too_short h = rw (lt-ltb _ _ h)
+
+    pub too_short_for_strips : length w < strip_room points limit + needed points limit predicted
+        → outcome (Err ShortList) 0 d ix w ≡ greedy_by_strips points limit predicted r2 d ix w
+    unfolding greedy_by_strips
+    too_short_for_strips h = rw (lt-ltb _ _ h)
+
+    -- behind the strips the same is left as by the call without strips
+    behind_strips : strip_room points limit + needed points limit predicted ≤ length w → (o : Outcome)
+        → o ≡ greedy_unique_matches points limit predicted r2 d ix (drop (strip_room points limit) w)
+        → outcome o.answer o.comparisons o.distances o.indices (replicate (strip_room points limit) 0 ++ o.work) ≡ greedy_by_strips points limit predicted r2 d ix w
+    unfolding greedy_by_strips
+    behind_strips fits o e =
+        rw (le-ltb (length w) _ fits) (ap (λ (o : Outcome). outcome o.answer o.comparisons o.distances o.indices (replicate (strip_room points limit) 0 ++ o.work)) e)
 
   -- ---- with room for strips
 
-  -- the places of the spots are cleared where the strips had been cleared
-  pub room_again : (w v v' : List ℕ) → 2 * np ≤ length w → v ≡ room_after points limit w → v' ≡ clearing.cleared 0 np v → v' ≡ room_after points limit w
-  unfolding room_after
-  room_again w v v' fits left again =
-      let z : v ≡ replicate (2 * np) 0 ++ drop (2 * np) w = left ∙ rw (← spots, le-ltb (length w) (2 * np) fits) in
-      let t : np + np ≡ 2 * np = omega arith in
-      let s : replicate (2 * np) 0 ++ drop (2 * np) w ≡ replicate np 0 ++ (replicate np 0 ++ drop (2 * np) w) =
-      ap (λ (l : List ℕ). l ++ drop (2 * np) w) (sym (rw t at (replicate-append-replicate {A = ℕ} np np 0)))
-      ∙ append_assoc (replicate np 0) (replicate np 0) (drop (2 * np) w) in
-      let long : np ≤ length v = rw (z ∙ s) (simp (length-append, length-replicate) (omega arith)) in
-      again
-      ∙ cleared_within 0 np v long
-      ∙ ap (λ (l : List ℕ). replicate np 0 ++ drop np l) (z ∙ s)
-      ∙ ap (λ (l : List ℕ). replicate np 0 ++ l) (drop_at (replicate np 0) (replicate np 0 ++ drop (2 * np) w) np (length-replicate np 0))
-      ∙ sym (z ∙ s)
-      ∙ left
-
   -- The strips, and the places of the spots, stood in front; there the list is cleared, and behind it is as before. That rest is lent and comes back.
-  module _ (w v : List ℕ) (least : ℕ) (lesser : least ≡ min np nq) (fits : 2 * np + np + nq + 2 * least ≤ length w) (left : v ≡ room_after points limit w) where
-    left_zero : v ≡ replicate (2 * np) 0 ++ drop (2 * np) w
+  module _ (np : ℕ) (spots : np ≡ spots_within points limit) (w : List ℕ) (fits : 2 * np + needed points limit predicted ≤ length w) where
+    -- the strips were cleared,
+    left_zero : {v : List ℕ} → v ≡ room_after points np w → v ≡ replicate (2 * np) 0 ++ drop (2 * np) w
     unfolding room_after
-    left_zero = left ∙ rw (← spots, le-ltb (length w) (2 * np) (omega arith))
+    left_zero left =
+        let e : spots_within points np ≡ np = omega arith in
+        left ∙ rw (e, le-ltb (length w) (2 * np) (omega arith))
 
-    front_zero : take (2 * np) v ≡ replicate (2 * np) 0
-    front_zero = rw left_zero (take_at (replicate (2 * np) 0) (drop (2 * np) w) (2 * np) (length-replicate (2 * np) 0))
-
-    rest_kept : drop (2 * np) v ≡ drop (2 * np) w
-    rest_kept = rw left_zero (drop_at (replicate (2 * np) 0) (drop (2 * np) w) (2 * np) (length-replicate (2 * np) 0))
-
-    lent_rest : take (length v - 2 * np) (drop (2 * np) v) ≡ drop (2 * np) w
-    lent_rest = rw (← length-drop (2 * np) v) (take-length (drop (2 * np) v)) ∙ rest_kept
-
-    rest_back : (l : List ℕ) → take (2 * np) v ++ (l ++ drop (length v - 2 * np) (drop (2 * np) v)) ≡ replicate (2 * np) 0 ++ l
-    rest_back l = rw (← length-drop (2 * np) v, drop-length (drop (2 * np) v), append-nil l, front_zero)
+    -- and where they had been the places of the spots again
+    pub room_again : {v v' : List ℕ} → v ≡ room_after points np w → v' ≡ clearing.cleared 0 np v → v' ≡ replicate (2 * np) 0 ++ drop (2 * np) w
+    room_again {v} {v'} left again =
+        let z = left_zero left in
+        let t : np + np ≡ 2 * np = omega arith in
+        let s : replicate (2 * np) 0 ++ drop (2 * np) w ≡ replicate np 0 ++ (replicate np 0 ++ drop (2 * np) w) =
+        ap (λ (l : List ℕ). l ++ drop (2 * np) w) (sym (rw t at (replicate-append-replicate {A = ℕ} np np 0)))
+        ∙ append_assoc (replicate np 0) (replicate np 0) (drop (2 * np) w) in
+        let long : np ≤ length v = rw (z ∙ s) (simp (length-append, length-replicate) (omega arith)) in
+        again
+        ∙ cleared_within 0 np v long
+        ∙ ap (λ (l : List ℕ). replicate np 0 ++ drop np l) (z ∙ s)
+        ∙ ap (λ (l : List ℕ). replicate np 0 ++ l) (drop_at (replicate np 0) (replicate np 0 ++ drop (2 * np) w) np (length-replicate np 0))
+        ∙ sym s
 
     enough_behind : needed points limit predicted ≤ length (drop (2 * np) w)
-    enough_behind = rw (← spots, ← lesser, length-drop (2 * np) w) (omega arith)
+    enough_behind = rw (length-drop (2 * np) w) (omega arith)
 
-    pub enough_lent : np + nq + 2 * min np nq ≤ length (take (length v - 2 * np) (drop (2 * np) v))
-    enough_lent = rw lent_rest (rw (← spots) at enough_behind)
+    pub over_behind : {c₀ c : Candidates} (v : List ℕ) → v ≡ room_after points np w → Over ps c₀ c
+        → outcome (Err ManyPairs) 0 (cleared c₀.cap c.distances.now) (cleared_n (2 * c₀.cap) c.indices.now) v
+        ≡ greedy_by_strips points limit predicted r2 c₀.distances.now c₀.indices.now w
+    over_behind {c₀} {c} v left o =
+        let whole = over_whole (drop (2 * np) w) enough_behind o in
+        rw (left_zero left, spots)
+        (behind_strips c₀.distances.now c₀.indices.now w (rw spots at fits)
+        (outcome (Err ManyPairs) 0 (cleared c₀.cap c.distances.now) (cleared_n (2 * c₀.cap) c.indices.now) (drop (2 * spots_within points limit) w)) (rw spots at whole))
 
-    pub answered_by_strips : (a : Result ℕ Refusal) (n : ℕ) (e : List Float) (jx l : List ℕ)
-        → outcome a n e jx l ≡ concluded np nq cap r from d' ix' (take (length v - 2 * np) (drop (2 * np) v))
-        → outcome a n e jx (take (2 * np) v ++ (l ++ drop (length v - 2 * np) (drop (2 * np) v))) ≡ greedy_by_strips points limit predicted r2 d ix w
-    answered_by_strips a n e jx l done =
-        let fits' : strip_room points limit + needed points limit predicted ≤ length w = rw (← spots, ← lesser) (omega arith) in
-        let whole = (rw lent_rest at done) ∙ concluded_whole (drop (2 * np) w) enough_behind in
-        rw (rest_back l, spots) (behind_strips points limit predicted r2 d ix w fits' (outcome a n e jx l) (rw spots at whole))
+    module _ (v : List ℕ) (left : v ≡ replicate (2 * np) 0 ++ drop (2 * np) w) where
+      front_zero : take (2 * np) v ≡ replicate (2 * np) 0
+      front_zero = rw left (take_at (replicate (2 * np) 0) (drop (2 * np) w) (2 * np) (length-replicate (2 * np) 0))
+
+      rest_kept : drop (2 * np) v ≡ drop (2 * np) w
+      rest_kept = rw left (drop_at (replicate (2 * np) 0) (drop (2 * np) w) (2 * np) (length-replicate (2 * np) 0))
+
+      lent_rest : take (length v - 2 * np) (drop (2 * np) v) ≡ drop (2 * np) w
+      lent_rest = rw (← length-drop (2 * np) v) (take-length (drop (2 * np) v)) ∙ rest_kept
+
+      rest_back : (l : List ℕ) → take (2 * np) v ++ (l ++ drop (length v - 2 * np) (drop (2 * np) v)) ≡ replicate (2 * np) 0 ++ l
+      rest_back l = rw (← length-drop (2 * np) v, drop-length (drop (2 * np) v), append-nil l, front_zero)
+
+      pub enough_lent : np + length predicted / 2 + 2 * min np (length predicted / 2) ≤ length (take (length v - 2 * np) (drop (2 * np) v))
+      enough_lent = rw (lent_rest, spots) (rw spots at enough_behind)
+
+      pub placed_behind : {c₀ c : Candidates} {h : Half} → Gathered ps c₀ c h → (a : Result ℕ Refusal) (n : ℕ) (e : List Float) (jx l : List ℕ)
+          → outcome a n e jx l
+          ≡ placed (np + length predicted / 2) c.n (comparisons not_after (standing h c)) (assigned [] (merged not_after (standing h c)))
+          c.distances.now c.indices.now (take (length v - 2 * np) (drop (2 * np) v))
+          → outcome a n e jx (take (2 * np) v ++ (l ++ drop (length v - 2 * np) (drop (2 * np) v)))
+          ≡ greedy_by_strips points limit predicted r2 c₀.distances.now c₀.indices.now w
+      placed_behind {c₀} g a n e jx l done =
+          let whole = (rw (lent_rest, spots) at done) ∙ (rw spots at (placed_whole (drop (2 * np) w) enough_behind g)) in
+          rw (rest_back l, spots) (behind_strips c₀.distances.now c₀.indices.now w (rw spots at fits) (outcome a n e jx l) whole)

@@ -3,6 +3,7 @@ pub mod Comparisons
 pub mod Greedy
 pub mod Answer
 pub mod Ordered
+pub mod Halves
 pub mod Layout
 pub mod Meaning
 pub mod Meant

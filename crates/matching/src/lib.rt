@@ -1,22 +1,27 @@
 // Greedy one-to-one matching of spots with predictions: `greedy_unique_matches` of the Rust's solver/matching.rs, for f64.
 #![tactic(auto)]
 
-ghost use Rattle.std.specs.Prelude.{◌≡◌, ◌⊎◌, [], ◌+◌, ◌*◌, ◌≤◌, min, length};
-ghost use Rattle.std.proofs.Math.Seq.{slice};
+ghost use Rattle.std.specs.Prelude.{◌≡◌, [], ◌*◌, ◌≤◌, length, Err};
 ghost use Rattle.matching.specs.Merge.{not_after, merged};
 ghost use Rattle.matching.specs.Comparisons.{comparisons};
-ghost use Rattle.matching.specs.Greedy.{Outcome, assigned, placed, greedy_unique_matches, greedy_by_strips};
+ghost use Rattle.matching.specs.Greedy.{Outcome, assigned, cleared, cleared_n, placed, greedy_unique_matches, greedy_by_strips};
 ghost use Rattle.pairs.specs.Elements.{All};
 ghost use Rattle.pairs.specs.Candidates.{Inside};
-ghost use Rattle.pairs.specs.Lent.{held, Same};
-ghost use Rattle.matching.specs.Layout.{outcome, concluded};
+ghost use Rattle.pairs.specs.Lent.{Same};
+ghost use Rattle.matching.specs.Halves.{standing};
+ghost use Rattle.matching.specs.Layout.{marks, places, outcome};
+ghost use Rattle.refusal.specs.declared.Refusal.TheVariants.{ManyPairs};
 
-use pairs::Candidates;
+mod assign; // assign.rt: pairs offered, and marks
+mod half; // half.rt: where pairs stand in the candidate lists
+mod merge; // merge.rt: pairs put in order
+mod sizes; // sizes.rt: how many spots and predictions there are
+mod two_runs; // two_runs.rt: two runs of pairs
+
+use half::Half;
+use pairs::{Candidates, Search};
 use refusal::Refusal;
-
-mod assign;
-mod merge;
-mod two_runs;
+use sizes::Sizes;
 
 // What a call of the matcher answers, and how often it compared two pairs to put them in order: 0 where it ordered none. So many matches stand in the
 // work list, after its marks; or there are more pairs within the radius than the candidate lists hold, or the work list is too short for the marks and
@@ -37,62 +42,40 @@ fn unordered(matched: Result<usize, Refusal>) -> Matching
     }
 }
 
-// m pairs of the candidate lists, from place `from` on, are put in order and offered; the marks and the candidate places are left zero. That many matches
-// stand after the marks.
-fn settle(
-    np: usize,
-    nq: usize,
-    m: usize,
-    from: usize,
-    c: &mut Candidates<'_>,
-    work: &mut [usize],
-) -> Matching
-    requires { (m ≤ c.old.cap)
-        × ((from ≡ 0) ⊎ (from ≡ m))
-        × (np + nq + 2 * min np nq ≤ length work.old)
-        × All (Inside np nq) (slice from (from + m) (held c.old)) }
+// The pairs of a half are put in order and offered; the marks and the candidate places are left zero. That many matches stand after the marks.
+fn settle(n: Sizes, half: Half, c: &mut Candidates<'_>, work: &mut [usize]) -> Matching
+    requires { (places n ≤ length work.old) × All (Inside n.spots n.predictions) (standing half c.old) }
     ensures { Same c.old c.new
         × (outcome result.matched result.comparisons c.new.distances.now c.new.indices.now work.new
-        ≡ placed (np + nq) m
-        (comparisons not_after (slice from (from + m) (held c.old)))
-        (assigned [] (merged not_after (slice from (from + m) (held c.old))))
+        ≡ placed (marks n) c.old.n
+        (comparisons not_after (standing half c.old))
+        (assigned [] (merged not_after (standing half c.old)))
         c.old.distances.now c.old.indices.now work.old) }
 {
-    let marked = np + nq;
-    let o = merge::order(c, m, from);
+    let marked = n.marks();
+    let o = merge::order(c, half);
     lists::clear(work, marked);
-    let t = assign::assign(c, o.at, m, np, marked, work);
+    let t = assign::assign(c, o.half, n, work);
     lists::clear(work, marked);
-    lists::clear(c.distances, 2 * m);
-    lists::clear(c.indices, 4 * m);
+    lists::clear(c.distances, 2 * c.n);
+    lists::clear(c.indices, 4 * c.n);
     Matching {
         matched: Ok(t),
         comparisons: o.compared,
     }
 }
 
-// What is answered once m pairs were found. No more of them stand in the candidate lists than these hold; where they all do, they stand from place `from` on.
-fn concluded(
-    np: usize,
-    nq: usize,
-    m: usize,
-    from: usize,
-    c: &mut Candidates<'_>,
-    work: &mut [usize],
-) -> Matching
-    requires { ((from ≡ 0) ⊎ (from ≡ m))
-        × (np + nq + 2 * min np nq ≤ length work.old)
-        × (m ≤ c.old.cap → All (Inside np nq) (slice from (from + m) (held c.old))) }
+// What is answered where a pair found no place in the candidate lists: the places of those that did are left zero.
+fn too_many(c: &mut Candidates<'_>) -> Matching
     ensures { Same c.old c.new
-        × (outcome result.matched result.comparisons c.new.distances.now c.new.indices.now work.new
-        ≡ concluded np nq c.old.cap m from c.old.distances.now c.old.indices.now work.old) }
+        × (result.matched ≡ Err ManyPairs)
+        × (result.comparisons ≡ 0)
+        × (c.new.distances.now ≡ cleared c.old.cap c.old.distances.now)
+        × (c.new.indices.now ≡ cleared_n (2 * c.old.cap) c.old.indices.now) }
 {
-    if c.cap < m {
-        lists::clear(c.distances, c.cap);
-        lists::clear(c.indices, 2 * c.cap);
-        return unordered(Err(Refusal::ManyPairs));
-    }
-    settle(np, nq, m, from, c, work)
+    lists::clear(c.distances, c.cap);
+    lists::clear(c.indices, 2 * c.cap);
+    unordered(Err(Refusal::ManyPairs))
 }
 
 // Matches the spots, the first `max_points` of them, with the predictions: pairs within the radius are taken nearest first,
@@ -119,19 +102,21 @@ pub fn greedy_unique_matches(
         (greedy_unique_matches points.now max_points predicted.now radius_sq
         distances.old indices.old work.old) }
 {
-    let np = pairs::spots_within(points, max_points);
-    let nq = predicted.len() / 2;
-    if work.len() < np + nq + 2 * np.min(nq) {
+    let s = Search::new(points, max_points, predicted, radius_sq);
+    let n = Sizes::of(s);
+    if work.len() < n.places() {
         return unordered(Err(Refusal::ShortList));
     }
     let mut c = Candidates::new(distances, indices);
-    let m = pairs::collect(points, max_points, predicted, radius_sq, &mut c);
-    concluded(np, nq, m, 0, &mut c, work)
+    match pairs::collect(s, &mut c) {
+        Some(()) => settle(n, Half::First, &mut c, work),
+        None => too_many(&mut c),
+    }
 }
 
 // The same matches, found more quickly: `work` has room in front of the marks, two places for each spot, where the spots are sorted into strips, so
 // that a prediction is tried only with the spots of the strips near it. That room is left zero.
-// Stays (form of 01): the lists are lent flat, each by itself, as above.
+// Stays (form of 01): the lists are lent flat, each by itself, as above; the room, the search and the half are this one's own, so that the two are no twins.
 pub fn greedy_unique_matches_by_strips(
     points: &[f64],
     max_points: usize,
@@ -152,14 +137,18 @@ pub fn greedy_unique_matches_by_strips(
         (greedy_by_strips points.now max_points predicted.now radius_sq
         distances.old indices.old work.old) }
 {
-    let np = pairs::spots_within(points, max_points);
-    let nq = predicted.len() / 2;
-    let room = 2 * np;
-    if work.len() < room + np + nq + 2 * np.min(nq) {
+    let s = Search::new(points, max_points, predicted, radius_sq);
+    let n = Sizes::of(s);
+    let room = 2 * n.spots;
+    if work.len() < room + n.places() {
         return unordered(Err(Refusal::ShortList));
     }
     let mut c = Candidates::new(distances, indices);
-    let m = pairs::collect_by_strips(points, max_points, predicted, radius_sq, &mut c, work);
-    pairs::put_by_spot(&mut c, m, np, work);
-    concluded(np, nq, m, m, &mut c, &mut work[room..])
+    match pairs::collect_by_strips(s, &mut c, work) {
+        Some(()) => {
+            pairs::put_by_spot(&mut c, n.spots, work);
+            settle(n, Half::Second, &mut c, &mut work[room..])
+        }
+        None => too_many(&mut c),
+    }
 }

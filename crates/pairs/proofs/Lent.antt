@@ -19,13 +19,13 @@ same_on p q = record {
 }
 
 pub kept_self : (n : ℕ) (c : Candidates) → Kept n c c
-kept_self n c = record { same = same_self c; beyond = stays n c.distances.now c.indices.now }
+kept_self n c = record { same = same_self c; many = refl; beyond = stays n c.distances.now c.indices.now }
 
 pub kept_on : {n : ℕ} {c c₁ c₂ : Candidates} → Kept n c c₁ → Kept n c₁ c₂ → Kept n c c₂
-kept_on p q = record { same = same_on p.same q.same; beyond = then p.beyond q.beyond }
+kept_on p q = record { same = same_on p.same q.same; many = q.many ∙ p.many; beyond = then p.beyond q.beyond }
 
 pub kept_later : {n : ℕ} {c c' : Candidates} (k : ℕ) → n ≤ k → Kept n c c' → Kept k c c'
-kept_later k h p = record { same = p.same; beyond = later k h p.beyond }
+kept_later k h p = record { same = p.same; many = p.many; beyond = later k h p.beyond }
 
 -- with the room behind them there are places for twice as many pairs as they hold
 pub held_long : (c : Candidates) (n : ℕ) → n ≤ 2 * c.cap → n ≤ length (held c)

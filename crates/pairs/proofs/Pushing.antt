@@ -1,10 +1,10 @@
 -- Pairs pushed one after the other: a spot's pairs prediction by prediction, all pairs spot by spot, and what the lists hold in the end. Assumes nothing.
 use Rattle.std.proofs.Common.{◌≡◌, ℕ, suc, ◌+◌, ◌-◌, ◌*◌, ◌/◌, ◌<◌, ◌≤◌, Bool, true, false, List, [], ◌∷◌, ◌++◌, length, take, set, sym, refl, ap, ◌∙◌, subst, ⊎_elim, append_assoc, append-nil, add-one, arith, length-set, take-suc-set, le-ltb, lt-ltb}
 use lib.Ieee.{Float, le}
-use Rattle.pairs.specs.Pairs.{Pair, Point, point_at, squared, within, pairs_of, pairs_from}
-use Rattle.std.specs.Prelude.{Option, Some, None}
+use Rattle.pairs.specs.Pairs.{Pair, Point, point_at, squared, within, pairs_of, pairs_from, pairs, spots_within}
+use Rattle.std.specs.Prelude.{⊤, Option, Some, None}
 use Rattle.pairs.specs.Candidates.{pair, Inside, laid, Found, found, push, pushed, Beyond}
-use Rattle.pairs.specs.Lent.{found_in, Same, Tried}
+use Rattle.pairs.specs.Lent.{found_in, how_many, Same, Tried}
 use Rattle.pairs.specs.declared.candidates.Candidates.{Candidates}
 use Rattle.pairs.specs.Elements.{All}
 use Rattle.pairs.specs.Strips.{Candidate}
@@ -47,48 +47,43 @@ within_first r2 p ps = by (le p.d2 r2) refl
 
 -- ---- a search through the pairs of a list
 
--- n pairs stand in the lists, and with those of l that are to come they make what is to stand there in the end
-pub record Going (c₀ c : Candidates) (n : ℕ) (l : List Pair) (end : Found) : Type 0 where
+-- the pairs that stand in the lists, with those of l that are to come, make what is to stand there in the end
+pub record Going (c₀ c : Candidates) (l : List Pair) (end : Found) : Type 0 where
   pub same : Same c₀ c
-  pub fits : n ≤ c₀.cap
-  pub whole : pushed c₀.cap (found_in n c) l ≡ end
+  pub whole : pushed c₀.cap (found_in c) l ≡ end
 
-pub begun : {c : Candidates} {n : ℕ} {l l' : List Pair} → n ≤ c.cap → l ≡ l' → Going c c n l (pushed c.cap (found_in n c) l')
-begun {c} {n} h e = record { same = same_self c; fits = h; whole = ap (pushed c.cap (found_in n c)) e }
+pub begun : {c : Candidates} {l l' : List Pair} → l ≡ l' → Going c c l (pushed c.cap (found_in c) l')
+begun {c} e = record { same = same_self c; whole = ap (pushed c.cap (found_in c)) e }
 
 -- the last one was tried
-pub ended : {c₀ c : Candidates} {n : ℕ} {l : List Pair} {end : Found} → Going c₀ c n l end → l ≡ [] → Tried c₀ (Some n) c end
-unfolding pushed
-ended g e = record { same = g.same; pairs = rw e at g.whole; fits = g.fits }
+pub ended : {c₀ c : Candidates} {l : List Pair} {end : Found} → Going c₀ c l end → l ≡ [] → Tried c₀ (Some tt) c end
+unfolding pushed how_many
+ended g e = record { same = g.same; pairs = rw e at g.whole; full = tt }
 
 -- a first part was tried
-module _ {c₀ c : Candidates} {n : ℕ} {l : List Pair} (ps qs : List Pair) {end : Found} (g : Going c₀ c n l end) (e : l ≡ ps ++ qs)
-    {o : Option ℕ} {c' : Candidates} (did : Tried c o c' (pushed c.cap (found_in n c) ps)) where
-  whole : pushed c₀.cap (pushed c₀.cap (found_in n c) ps) qs ≡ end
-  whole = sym (pushed_append c₀.cap (found_in n c) ps qs) ∙ (rw e at g.whole)
+module _ {c₀ c : Candidates} {l : List Pair} (ps qs : List Pair) {end : Found} (g : Going c₀ c l end) (e : l ≡ ps ++ qs)
+    {o : Option ⊤} {c' : Candidates} (did : Tried c o c' (pushed c.cap (found_in c) ps)) where
+  whole : pushed c₀.cap (pushed c₀.cap (found_in c) ps) qs ≡ end
+  whole = sym (pushed_append c₀.cap (found_in c) ps qs) ∙ (rw e at g.whole)
 
   -- and fits
-  pub going_on : {r : ℕ} → o ≡ Some r → Going c₀ c' r qs end
-  going_on {r} q =
-      let t : Tried c (Some r) c' (pushed c.cap (found_in n c) ps) = rw q at did in
-      let made : found_in r c' ≡ pushed c₀.cap (found_in n c) ps = rw (← g.same.cap) t.pairs in
-      record {
-        same = same_on g.same t.same;
-        fits = omega (arith, g.same.cap, t.fits);
-        whole = ap (λ (s : Found). pushed c₀.cap s qs) made ∙ whole;
-      }
+  pub going_on : {u : ⊤} → o ≡ Some u → Going c₀ c' qs end
+  unfolding how_many
+  going_on {u} q =
+      let t : Tried c (Some u) c' (pushed c.cap (found_in c) ps) = rw q at did in
+      let made : found_in c' ≡ pushed c₀.cap (found_in c) ps = rw (← g.same.cap) t.pairs in
+      record { same = same_on g.same t.same; whole = ap (λ (s : Found). pushed c₀.cap s qs) made ∙ whole }
 
   -- and was too much
-  pub gone_full : o ≡ None → {a : Option ℕ} → a ≡ None → Tried c₀ a c' end
+  pub gone_full : o ≡ None → {a : Option ⊤} → a ≡ None → Tried c₀ a c' end
+  unfolding how_many
   gone_full q {a} p =
-      let t : Tried c None c' (pushed c.cap (found_in n c) ps) = rw q at did in
-      let made : found_in (c₀.cap + 1) c' ≡ pushed c₀.cap (found_in n c) ps = rw (← g.same.cap) t.pairs in
-      rw p
-      (record {
-        same = same_on g.same t.same;
-        pairs = sym (pushed_full c₀.cap c'.distances.now c'.indices.now qs) ∙ ap (λ (s : Found). pushed c₀.cap s qs) made ∙ whole;
-        fits = tt;
-      })
+      let t : Tried c None c' (pushed c.cap (found_in c) ps) = rw q at did in
+      let s = same_on g.same t.same in
+      let made : found (c'.cap + 1) c'.distances.now c'.indices.now ≡ pushed c₀.cap (found_in c) ps = rw (← g.same.cap) t.pairs in
+      let ended : found (c'.cap + 1) c'.distances.now c'.indices.now ≡ pushed c₀.cap (found (c'.cap + 1) c'.distances.now c'.indices.now) qs =
+      rw s.cap (sym (pushed_full c₀.cap c'.distances.now c'.indices.now qs)) in
+      rw p (record { same = s; pairs = ended ∙ ap (λ (s : Found). pushed c₀.cap s qs) made ∙ whole; full = t.full })
 
 -- ---- a spot's pairs, one prediction more
 
@@ -103,6 +98,13 @@ module _ (r2 : Float) (predicted : List Float) (i : ℕ) (c : Point) (n j : ℕ)
       rw (e, add-one j) (within_first r2 this (pairs_of r2 predicted i c (suc j) (n - suc j)))
 
 -- ---- all pairs, one spot more
+
+pub all_pairs : (points : List Float) (np : ℕ) (predicted : List Float) (r2 : Float) → 2 * np ≤ length points
+    → pairs points np predicted r2 ≡ pairs_from r2 points predicted 0 np
+unfolding pairs
+all_pairs points np predicted r2 h =
+    let e : spots_within points np ≡ np = omega arith in
+    rw e
 
 pub pairs_spot : (r2 : Float) (points predicted : List Float) (n i : ℕ) → i < n
     → pairs_from r2 points predicted i (n - i)

@@ -2,9 +2,8 @@
 #![tactic(auto)]
 
 ghost use Rattle.std.specs.Prelude.{◌≡◌, length};
-ghost use Rattle.pairs.specs.Pairs.{pairs, spots_within};
-ghost use Rattle.pairs.specs.Candidates.{capacity, pushed};
-ghost use Rattle.pairs.specs.Lent.{found_in, Same};
+ghost use Rattle.pairs.specs.Candidates.{pushed};
+ghost use Rattle.pairs.specs.Lent.{found_in, Tried};
 ghost use Rattle.pairs.specs.Strips.{pairs_nearby, room_after};
 
 mod by_spot; // by_spot.rt: the pairs found, put by spot
@@ -15,68 +14,24 @@ mod strips; // strips.rt: the pairs found by strips
 
 pub use by_spot::put_by_spot;
 pub use candidates::Candidates;
-use search::Search;
-
-// The spots that are looked at: the first `max_points` of them.
-pub fn spots_within(points: &[f64], max_points: usize) -> usize
-    ensures { result ≡ spots_within points.now max_points }
-{
-    (points.len() / 2).min(max_points)
-}
-
-// Finds the pairs of the spots, the first `max_points` of them, with the predictions, by spot and then prediction. Points are flat, x then y. The
-// pairs are laid in the candidate lists; how many there are is the result, one more than fit where there are more.
-pub fn collect(
-    points: &[f64],
-    max_points: usize,
-    predicted: &[f64],
-    radius_sq: f64,
-    c: &mut Candidates<'_>,
-) -> usize
-    ensures { Same c.old c.new
-        × (found_in result c.new
-        ≡ pushed (capacity c.old.distances.now c.old.indices.now) (found_in 0 c.old)
-        (pairs points.now max_points predicted.now radius_sq)) }
-{
-    let s = Search {
-        points,
-        np: spots_within(points, max_points),
-        predicted,
-        radius_sq,
-    };
-    pairs::collect(s, c).unwrap_or(c.cap + 1)
-}
+pub use pairs::collect;
+pub use search::Search;
 
 // The same pairs in another order, found more quickly: `work` has room, two places for each spot, where the spots are sorted into strips, so that a
 // prediction is tried only with the spots of the strips near it. That room is left zero. Where it is too short all pairs are tried.
 // Not made part of its callers: by itself its loops are compiled with fewer loads.
 #[inline(never)]
-pub fn collect_by_strips(
-    points: &[f64],
-    max_points: usize,
-    predicted: &[f64],
-    radius_sq: f64,
-    c: &mut Candidates<'_>,
-    work: &mut [usize],
-) -> usize
-    ensures { Same c.old c.new
-        × (found_in result c.new
-        ≡ pushed (capacity c.old.distances.now c.old.indices.now) (found_in 0 c.old)
-        (pairs_nearby points.now max_points predicted.now radius_sq
-        (length work.old)))
-        × (work.new ≡ room_after points.now max_points work.old) }
+pub fn collect_by_strips(s: Search<'_>, c: &mut Candidates<'_>, work: &mut [usize]) -> Option<()>
+    ensures { Tried c.old result c.new
+        (pushed c.old.cap (found_in c.old)
+        (pairs_nearby s.entry.points.now s.entry.np s.entry.predicted.now s.entry.radius_sq (length work.old)))
+        × (work.new ≡ room_after s.entry.points.now s.entry.np work.old) }
 {
-    let s = Search {
-        points,
-        np: spots_within(points, max_points),
-        predicted,
-        radius_sq,
-    };
     let room = 2 * s.np;
     if work.len() < room {
-        return pairs::collect(s, c).unwrap_or(c.cap + 1);
+        return collect(s, c);
     }
-    let m = strips::collect(s, c, work);
+    let found = strips::collect(s, c, work);
     lists::clear(work, room);
-    m.unwrap_or(c.cap + 1)
+    found
 }

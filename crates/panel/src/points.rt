@@ -6,6 +6,7 @@ ghost use Rattle.panel.specs.Points.{coordinates};
 use crate::spots::spot_at;
 
 // The points of the first n spots, x then y, at the front of a list: as many of them as it has room for.
+#[tactic(auto, unfolding(crate::specs::Points::coordinates))]
 pub fn lay_points(spots: &[f64], n: usize, points: &mut [f64])
     ensures { points.new
         ≡ fronted (coordinates spots.now 0 (min n (length points.old / 2)))

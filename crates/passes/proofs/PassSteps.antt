@@ -42,11 +42,6 @@ later i f = record { pose = f.pose; passes = i + f.passes; fine = f.fine }
 abbrev ended : Pose → ℕ → Bool → Passes
 ended p n b = record { pose = p; passes = n; fine = b }
 
-pub none_yet : (f : Passes) → later 0 f ≡ f
-none_yet f =
-    let e : 0 + f.passes ≡ f.passes = omega arith in
-    ap (λ (n : ℕ). ended f.pose n f.fine) e
-
 pub too_few : (cut : Float) (rs : List Row) (p : Pose) → ltb (length rs) 3 ≡ true → ended p 0 true ≡ fit_passes 10 cut rs p
 unfolding fit_passes
 too_few cut rs p h = sym (ap (λ (b : Bool). cond b (ended p 0 true) (passed p (ls_fit_once (view_of p cut) rs) (λ q. fit_passes 9 cut rs q))) h)

@@ -6,7 +6,7 @@ ghost use Rattle.fit.specs.Rows.{rows};
 ghost use Rattle.passes.specs.Fit.{moved, sound, still, fit_passes, passes_of};
 
 use fit::{Pose, ls_fit_once};
-use project::{Sky, inverse_tan_project};
+use project::{Plane, Sky, inverse_tan_project};
 use rounding::abs;
 use solve::Solution;
 
@@ -34,11 +34,15 @@ pub struct Passed {
 }
 
 // Theta and the boresight moved by a solution.
-#[tactic(auto, unfolding(crate::specs::Fit::moved))]
+// Stays (form of 01): a solution "carries the three corrections as floats", and the fit loop takes it apart.
 pub fn moved(p: Pose, d_theta: f64, d_xi: f64, d_eta: f64) -> Pose
     ensures { result ≡ moved p d_theta d_xi d_eta }
 {
-    let Sky { ra, dec } = inverse_tan_project(d_xi, d_eta, p.ra, p.dec);
+    let offset = Plane {
+        xi: d_xi,
+        eta: d_eta,
+    };
+    let Sky { ra, dec } = inverse_tan_project(offset, p.crval());
     Pose {
         theta: p.theta + d_theta,
         ra,
@@ -55,6 +59,7 @@ pub fn is_sound(p: Pose) -> bool
     abs(p.theta) <= MOST && abs(p.ra) <= MOST && abs(p.dec) <= MOST
 }
 
+// Stays (form of 01): the three corrections, as `moved` takes them.
 #[tactic(auto, unfolding(crate::specs::Fit::still))]
 pub fn is_still(d_theta: f64, d_xi: f64, d_eta: f64) -> bool
     ensures { result ≡ still d_theta d_xi d_eta }

@@ -16,6 +16,7 @@ mod fields; // fields.rt: the lines of an answer
 
 // The text of an answer and of the matches that it reports, spot then direction, at the front of `out`, as far as that has places. How many
 // bytes of it hold text is the result.
+// Stays (fixed memory): here and below the text stands at the front of the lent list, and how long it is is answered.
 pub fn print_answer(
     answer: Result<WcsRefineResult, Refusal>,
     matches: &[usize],
@@ -40,6 +41,7 @@ fn print_accepted(r: &WcsRefineResult, matches: &[usize], out: &mut [u8]) -> usi
 }
 
 // The same of a refusal by its number alone, for what is turned away before there is an answer.
+// Stays (no plainer): any number is printed, and by a `Refusal` this would ask more of its callers.
 pub fn print_refusal(number: usize, out: &mut [u8]) -> usize
     ensures value { result ≡ min (length (refused_text number)) (length out.old) }
     ensures out_after { out.new ≡ set_from 0 (refused_text number) out.old }

@@ -10,6 +10,8 @@ const SPACE: u8 = 32;
 const NEWLINE: u8 = 10;
 
 // What stands in a line after its word.
+// Stays (unproved): by `write!`, with `{}` and `{:016X}`, it is as quick, but the library says what is written only where `write!` answers `Ok`, and
+// not that it does where the writer never fails. So the text of an answer could not be promised.
 pub(crate) trait Shown: Copy {
     ghost text: { Self → List ℕ };
 

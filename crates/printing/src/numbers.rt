@@ -1,9 +1,10 @@
 // Whole numbers in decimal digits, floats in the hexadecimal digits of their bits.
+// Stays (unproved): digits are reckoned by hand for the reason that stands at `Shown`.
 ghost use Rattle.std.specs.Prelude.{◌≡◌, [], ◌<◌};
-ghost use Rattle.printing.specs.Laying.{Writes};
+ghost use Rattle.printing.specs.Laying.{laid, Lays, Writes};
 ghost use Rattle.printing.specs.Text.{decimal_from, decimal, hex_digit, hex_from, bits_text};
 
-use crate::laying::Writer;
+use crate::laying::{Writer, lay};
 use rounding::to_bits;
 
 // In upper case: 55 and ten is the letter A.
@@ -18,37 +19,41 @@ fn hex_digit(d: u64) -> u8
     55 + x
 }
 
-impl Writer<'_> {
-    // At most k + 1 digits, those of n / 10 before the last one.
-    fn push_digits(&mut self, n: usize, k: usize)
-        ensures { Writes (decimal_from k n []) self.old self.new }
-    {
-        if k != 0 && 10 <= n {
-            self.push_digits(n / 10, k - 1);
-        }
-        self.push_byte(48 + (n % 10) as u8);
+// At most k + 1 digits from a place on, those of n / 10 before the last one, and the place after them. Here and below the place goes from digit to
+// digit by value, which is quicker than in the writer.
+fn lay_digits(n: usize, k: usize, room: &mut [u8], at: usize) -> usize
+    ensures { Lays (decimal_from k n []) (laid at room.old) (laid result room.new) }
+{
+    let last = 48 + (n % 10) as u8;
+    if k == 0 || n < 10 {
+        return lay(last, room, at);
     }
+    let to = lay_digits(n / 10, k - 1, room, at);
+    lay(last, room, to)
+}
 
+// The k lowest digits, those of n / 16 before the last one.
+fn lay_hex_digits(n: u64, k: usize, room: &mut [u8], at: usize) -> usize
+    ensures { Lays (hex_from k n []) (laid at room.old) (laid result room.new) }
+{
+    if k == 0 {
+        return at;
+    }
+    let to = lay_hex_digits(n / 16, k - 1, room, at);
+    lay(hex_digit(n % 16), room, to)
+}
+
+impl Writer<'_> {
     // Twenty digits hold every number of 64 bits.
     pub(crate) fn push_decimal(&mut self, n: usize)
         ensures { Writes (decimal n) self.old self.new }
     {
-        self.push_digits(n, 19);
-    }
-
-    // The k lowest digits, those of n / 16 before the last one.
-    fn push_hex_digits(&mut self, n: u64, k: usize)
-        ensures { Writes (hex_from k n []) self.old self.new }
-    {
-        if k != 0 {
-            self.push_hex_digits(n / 16, k - 1);
-            self.push_byte(hex_digit(n % 16));
-        }
+        self.at = lay_digits(n, 19, self.room, self.at);
     }
 
     pub(crate) fn push_hex(&mut self, x: f64)
         ensures { Writes (bits_text x) self.old self.new }
     {
-        self.push_hex_digits(to_bits(x), 16);
+        self.at = lay_hex_digits(to_bits(x), 16, self.room, self.at);
     }
 }

@@ -3,8 +3,8 @@ ghost use Rattle.std.specs.Prelude.{◌≡◌, cond, [], ◌∷◌};
 ghost use Rattle.solve.specs.Vector.{row, entry, dot, norm, normalised, combined, negated};
 ghost use Rattle.project.specs.Camera.{east, north, boresight, camera_rows, tan_basis, tan_project_vec, narrowed_row, rotation_from_theta_crval, mirrored, field_of_view, wcs_to_rotation};
 
-use crate::{Plane, WcsRotation};
-use angles::{SinCos, atan, sin_cos};
+use crate::{Plane, Sky, WcsRotation};
+use angles::{atan, sin_cos};
 use rounding::{narrow, sqrt, widen};
 
 #[tactic(auto, unfolding(solve::specs::Vector::dot))]
@@ -48,74 +48,63 @@ fn negated(v: [f64; 3]) -> [f64; 3]
     v.map(|x| -x)
 }
 
-// The tangent plane at (ra, dec): its axes to the east and to the north, and the boresight.
+// The tangent plane at a point of the sky: its axes to the east and to the north, and the boresight.
 #[tactic(auto, unfolding(crate::specs::Camera::east, crate::specs::Camera::north, crate::specs::Camera::boresight))]
-fn plane_at(ra: f64, dec: f64) -> [[f64; 3]; 3]
-    ensures { result ≡ east ra ∷ north ra dec ∷ boresight ra dec ∷ [] }
+pub fn plane_at(crval: Sky) -> [[f64; 3]; 3]
+    ensures { result ≡ east crval.ra ∷ north crval.ra crval.dec ∷ boresight crval.ra crval.dec ∷ [] }
 {
-    let SinCos {
-        sin: sin_a,
-        cos: cos_a,
-    } = sin_cos(ra);
-    let SinCos {
-        sin: sin_d,
-        cos: cos_d,
-    } = sin_cos(dec);
+    let a = sin_cos(crval.ra);
+    let d = sin_cos(crval.dec);
     [
-        [-sin_a, cos_a, 0.0],
-        [-sin_d * cos_a, -sin_d * sin_a, cos_d],
-        [cos_d * cos_a, cos_d * sin_a, sin_d],
+        [-a.sin, a.cos, 0.0],
+        [-d.sin * a.cos, -d.sin * a.sin, d.cos],
+        [d.cos * a.cos, d.cos * a.sin, d.sin],
     ]
 }
 
-// The direction (ra, dec).
-pub fn boresight_of(ra: f64, dec: f64) -> [f64; 3]
-    ensures { result ≡ boresight ra dec }
+// The direction to a point of the sky.
+pub fn boresight_of(crval: Sky) -> [f64; 3]
+    ensures { result ≡ boresight crval.ra crval.dec }
 {
-    plane_at(ra, dec)[2]
+    plane_at(crval)[2]
 }
 
 // The camera's axes as rows: x, y and the boresight.
 #[tactic(auto, unfolding(crate::specs::Camera::camera_rows))]
-pub fn camera_rows_f64(theta: f64, crval_ra: f64, crval_dec: f64) -> [[f64; 3]; 3]
-    ensures { result ≡ camera_rows theta crval_ra crval_dec }
+pub fn camera_rows_f64(theta: f64, crval: Sky) -> [[f64; 3]; 3]
+    ensures { result ≡ camera_rows theta crval.ra crval.dec }
 {
-    let [east, north, boresight] = plane_at(crval_ra, crval_dec);
-    let SinCos {
-        sin: sin_t,
-        cos: cos_t,
-    } = sin_cos(theta);
-    let x = normalised(combined(east, cos_t, north, sin_t));
-    let y = normalised(combined(east, -sin_t, north, cos_t));
+    let [east, north, boresight] = plane_at(crval);
+    let t = sin_cos(theta);
+    let x = normalised(combined(east, t.cos, north, t.sin));
+    let y = normalised(combined(east, -t.sin, north, t.cos));
     [x, y, boresight]
 }
 
-// The basis of the tangent plane at (ra, dec): the camera's axes without roll.
+// The basis of the tangent plane at a point of the sky: the camera's axes without roll.
 #[tactic(auto, unfolding(crate::specs::Camera::tan_basis))]
-pub fn tan_basis(ra: f64, dec: f64) -> [[f64; 3]; 3]
-    ensures { result ≡ tan_basis ra dec }
+pub fn tan_basis(crval: Sky) -> [[f64; 3]; 3]
+    ensures { result ≡ tan_basis crval.ra crval.dec }
 {
-    camera_rows_f64(0.0, ra, dec)
+    camera_rows_f64(0.0, crval)
 }
 
 // Where a direction lies on the tangent plane of a basis, if it lies in front of it. It is asked of every direction in every pass, so the
-// entries are read where they stand, and the denominator is looked at first.
+// denominator is looked at first.
+// Stays (no plainer): `divided` takes both numerators, which are not reckoned here for a direction on or behind the plane.
 #[tactic(auto, unfolding(crate::specs::Camera::tan_project_vec))]
 pub fn tan_project_vec(v: [f32; 3], basis: [[f64; 3]; 3], cut: f64) -> Option<Plane>
     ensures { result ≡ tan_project_vec cut v basis }
 {
-    let x = widen(v[0]);
-    let y = widen(v[1]);
-    let z = widen(v[2]);
-    let denom = basis[2][0] * x + basis[2][1] * y + basis[2][2] * z;
+    let [east, north, boresight] = basis;
+    let w = [widen(v[0]), widen(v[1]), widen(v[2])];
+    let denom = dot(boresight, w);
     if denom <= cut {
         return None;
     }
-    let xi = basis[0][0] * x + basis[0][1] * y + basis[0][2] * z;
-    let eta = basis[1][0] * x + basis[1][1] * y + basis[1][2] * z;
     Some(Plane {
-        xi: xi / denom,
-        eta: eta / denom,
+        xi: dot(east, w) / denom,
+        eta: dot(north, w) / denom,
     })
 }
 
@@ -136,10 +125,10 @@ fn narrowed_rows(m: [[f64; 3]; 3]) -> [[f32; 3]; 3]
 
 // The rotation from the sky to the camera, in f32.
 #[tactic(auto, unfolding(crate::specs::Camera::rotation_from_theta_crval))]
-pub fn rotation_from_theta_crval(theta: f64, crval_ra: f64, crval_dec: f64) -> [[f32; 3]; 3]
-    ensures { result ≡ rotation_from_theta_crval theta crval_ra crval_dec }
+pub fn rotation_from_theta_crval(theta: f64, crval: Sky) -> [[f32; 3]; 3]
+    ensures { result ≡ rotation_from_theta_crval theta crval.ra crval.dec }
 {
-    narrowed_rows(camera_rows_f64(theta, crval_ra, crval_dec))
+    narrowed_rows(camera_rows_f64(theta, crval))
 }
 
 // A mirrored image has a negative determinant.
@@ -168,15 +157,10 @@ fn field_of_view(ps_x: f64, width: u32) -> f32
 }
 
 // The rotation, the field of view and the mirror of an image, from its matrix cd and the boresight.
-pub fn wcs_to_rotation(
-    cd: [[f64; 2]; 2],
-    crval_ra: f64,
-    crval_dec: f64,
-    image_width: u32,
-) -> WcsRotation
-    ensures { result ≡ wcs_to_rotation cd crval_ra crval_dec image_width }
+pub fn wcs_to_rotation(cd: [[f64; 2]; 2], crval: Sky, image_width: u32) -> WcsRotation
+    ensures { result ≡ wcs_to_rotation cd crval.ra crval.dec image_width }
 {
-    let [east, north, boresight] = plane_at(crval_ra, crval_dec);
+    let [east, north, boresight] = plane_at(crval);
     let x = raw_x(cd, east, north);
     let y = combined(east, cd[0][1], north, cd[1][1]);
     WcsRotation {

@@ -8,8 +8,8 @@ mod project; // project.rt: the projections on angles
 mod camera; // camera.rt: the camera's axes, and directions on them
 
 pub use camera::{
-    boresight_of, camera_rows_f64, dot, rotation_from_theta_crval, tan_basis, tan_project_vec,
-    wcs_to_rotation,
+    boresight_of, camera_rows_f64, dot, plane_at, rotation_from_theta_crval, tan_basis,
+    tan_project_vec, wcs_to_rotation,
 };
 pub use project::{cd_from_theta, inverse_tan_project, predict_tanplane, tan_project};
 
@@ -28,6 +28,14 @@ pub struct Sky {
 pub struct Plane {
     pub xi: f64,
     pub eta: f64,
+}
+
+// What takes a spot's pixels to the tangent plane: the cosine and the sine of the roll, and the pixel scale.
+#[derive(Clone, Copy)]
+pub struct Roll {
+    pub cos_t: f64,
+    pub sin_t: f64,
+    pub ps: f64,
 }
 
 // The camera's axes in f32, by rows, the field of view and the mirror.

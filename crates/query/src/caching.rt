@@ -2,25 +2,22 @@
 ghost use Rattle.std.specs.Prelude.{◌≡◌};
 ghost use Rattle.query.specs.Sighting.{due, afresh, kept};
 
-use crate::scan::drifted_from;
 use crate::{Held, Looked};
-use entry::{Settings, requery_cos, theta_margin};
-use project::boresight_of;
+use entry::Settings;
+use project::{boresight_of, dot};
+use rounding::abs;
 
-// Whether a query is due: none is cached, or the pose has drifted from it.
+// Whether a query is due: none is cached, or the pose has left its boresight or its roll too far behind.
+#[tactic(auto, unfolding(crate::specs::Query::drifted))]
 pub fn is_due(k: Settings, held: Held) -> bool
     ensures { result ≡ due k held }
 {
-    if held.filled {
-        return drifted_from(
-            held.boresight,
-            held.theta,
-            held.pose,
-            requery_cos(k),
-            theta_margin(k),
-        );
+    if !held.filled {
+        return true;
     }
-    true
+    let now = boresight_of(held.pose.crval());
+    dot(held.boresight, now) < k.requery_cos()
+        || k.theta_margin() < abs(held.pose.theta - held.theta)
 }
 
 // The answer after a fresh query, which is cached at the pose as it is.
@@ -31,7 +28,7 @@ pub fn after_query(held: Held, cached: usize, predicted: usize) -> Looked
     Looked {
         held: Held {
             filled: true,
-            boresight: boresight_of(pose.ra, pose.dec),
+            boresight: boresight_of(pose.crval()),
             theta: pose.theta,
             cached,
             ..held

@@ -8,7 +8,6 @@ mod falls; // falls.rt: where the listed directions fall
 mod caching; // caching.rt: whether the cached query serves
 
 pub use caching::{after_query, is_due, without_query};
-pub use falls::{fall_at, prune_in_place};
 pub use scan::{axis32, least_cos_of, scan_into};
 
 // The pose, how many matches there are, and the cached query: whether there is one, its boresight and roll, and how many directions it lists.
@@ -29,6 +28,17 @@ pub struct Looked {
     pub held: Held,
     pub predicted: usize,
     pub queries: usize,
+}
+
+// What directions fall on: the directions themselves, the camera's axes as rows, the inverse of the pixel scale, the plane cut, and how far from
+// the optical centre the panel reaches.
+#[derive(Clone, Copy)]
+pub struct Projection<'a> {
+    pub directions: &'a [f32],
+    pub rows: [[f64; 3]; 3],
+    pub inv: f64,
+    pub cut: f64,
+    pub r: f64,
 }
 
 // A point of the panel, and whether a direction that falls there reaches it.

@@ -1,18 +1,17 @@
 // The cone query: the directions near the boresight, and whether the cached ones still do.
 ghost use Rattle.std.specs.Prelude.{◌≡◌, ◌/◌, min, length};
-ghost use Rattle.rounding.specs.Methods.{clamp_f};
 ghost use Rattle.query.specs.Query.{dot32, axis32, scanned};
-ghost use Rattle.query.specs.Listing.{least_cos_of, drifted_from, Fronted};
+ghost use Rattle.query.specs.Listing.{least_cos_of, Fronted};
 
 use angles::cos_f32;
-use fit::Pose;
-use project::{boresight_of, dot};
-use rounding::{abs, narrow, sqrt};
+use rounding::{narrow, sqrt};
 
 // PI as an f32 has it.
 const PI: f32 = 3.14159274;
 
-// Stays (no plainer): one product over both widths would call methods for * and +, which `Binary` would get for this line alone.
+// Stays (no plainer): project's `dot` is of f64, and `Binary`, over which one could be of both widths, is not handed out; `scan_into` has the
+// product by itself, since it reads the components where they stand in the flat list.
+#[tactic(auto, unfolding(crate::specs::Query::dot32))]
 fn dot32(a: [f32; 3], b: [f32; 3]) -> f32
     ensures { result ≡ dot32 a b }
 {
@@ -20,6 +19,7 @@ fn dot32(a: [f32; 3], b: [f32; 3]) -> f32
 }
 
 // The axis of the cone, of length 1 as an f32 has it; (1, 0, 0) where there is no length.
+#[tactic(auto, unfolding(crate::specs::Query::axis32))]
 pub fn axis32(b: [f64; 3]) -> [f32; 3]
     ensures { result ≡ axis32 b }
 {
@@ -34,25 +34,17 @@ pub fn axis32(b: [f64; 3]) -> [f32; 3]
     }
 }
 
-// Rust's clamp; a NaN stays.
-// Stays (no plainer): one `clamp` over both widths would call a method for <, which `Binary` would get for it alone.
-fn clamp32(x: f32, lo: f32, hi: f32) -> f32
-    ensures { result ≡ clamp_f x lo hi }
-{
-    if x < lo {
-        return lo;
-    }
-    if hi < x { hi } else { x }
-}
-
 // The cosine of the cone's radius.
+#[tactic(auto, unfolding(crate::specs::Listing::least_cos_of, rounding::specs::Methods::clamp_f))]
 pub fn least_cos_of(search: f64, margin: f64) -> f32
     ensures { result ≡ least_cos_of search margin }
 {
-    cos_f32(clamp32(narrow(search + margin), 0.0, PI))
+    cos_f32(narrow(search + margin).clamp(0.0, PI))
 }
 
 // The directions within the cone, ascending, at the front of `out`; of the first ones, as many as it has places.
+// Stays (fixed memory): it answers how many stand at the front of the lent list; so does `prune_in_place`.
+#[tactic(auto, unfolding(crate::specs::Query::scanned, crate::specs::Query::dot32, fit::specs::Rows::direction_at))]
 pub fn scan_into(directions: &[f32], axis: [f32; 3], least: f32, out: &mut [usize]) -> usize
     ensures { Fronted
         (scanned directions.now axis least 0
@@ -71,19 +63,4 @@ pub fn scan_into(directions: &[f32], axis: [f32; 3], least: f32, out: &mut [usiz
         }
     }
     k
-}
-
-// Whether the pose has left the boresight or the roll of the last query too far behind.
-#[tactic(auto, unfolding(crate::specs::Listing::drifted_from))]
-pub(crate) fn drifted_from(
-    b: [f64; 3],
-    theta: f64,
-    pose: Pose,
-    requery_cos: f64,
-    theta_margin: f64,
-) -> bool
-    ensures { result ≡ drifted_from b theta pose requery_cos theta_margin }
-{
-    let now = boresight_of(pose.ra, pose.dec);
-    dot(b, now) < requery_cos || theta_margin < abs(pose.theta - theta)
 }

@@ -11,6 +11,7 @@ use borrow.Author.Tests.{ltb-true}
 use lib.Dec.{ltb, eqb}
 use lib.ListN.{length, take, drop, length-append, length-drop, length-map, set, get_or, drop_of_length-le}
 use lib.Seq.{take_all, drop-cons, set_at}
+use Rattle.std.proofs.lemmas.List.{drop-drop}
 use Rattle.refusal.specs.declared.Refusal.{Refusal}
 use Rattle.record.specs.declared.Number.{Number}
 use Rattle.refusal.specs.declared.Refusal.TheVariants.{WrongNumber}
@@ -115,6 +116,12 @@ past n l = take (length l - n) (drop n l)
 
 pub past_is : (n : ℕ) (l : List ℕ) → drop n l ≡ past n l
 past_is n l = sym (take_all (length l - n) (drop n l) (omega (arith, length-drop n l)))
+
+pub past_past : (n at : ℕ) (l : List ℕ) → past n (past at l) ≡ past (at + n) l
+past_past n at l = sym (past_is n (past at l)) ∙ ap (drop n) (sym (past_is at l)) ∙ drop-drop n at l ∙ past_is (at + n) l
+
+pub past_length : (n : ℕ) (l : List ℕ) → length (past n l) ≡ length l - n
+past_length n l = ap length (sym (past_is n l)) ∙ length-drop n l
 
 -- ---- a run: `done` is read, and what is left lies in `rest`
 

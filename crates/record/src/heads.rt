@@ -5,6 +5,7 @@ use crate::numbers::{TOP_32, TOP_64, number_to};
 use refusal::Refusal;
 
 // The place of each number, as specs/Head.antt has it; the rotation's nine entries stand from ROTATION on.
+// Stays (no plainer): the numbers of a head are read in a loop, into an array, and named by these places; fields would be read one by one.
 pub(crate) const SPOTS: usize = 0;
 
 pub(crate) const MATCHES: usize = 1;
@@ -29,6 +30,7 @@ pub(crate) const ROTATION: usize = 9;
 pub(crate) const COUNT: usize = 18;
 
 // The greatest that each may be: the mirror has 1 bit, the scale and the cut 64, and any other 32.
+// Stays (no plainer): one for each number of the head, at its place, as `head_bits` of specs/Head.antt has their bits.
 const TOPS: [u64; COUNT] = [
     TOP_32, TOP_32, TOP_32, 1, TOP_64, TOP_32, TOP_64, TOP_32, TOP_32, TOP_32, TOP_32, TOP_32,
     TOP_32, TOP_32, TOP_32, TOP_32, TOP_32, TOP_32,

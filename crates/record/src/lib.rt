@@ -26,7 +26,7 @@ pub struct Number {
 }
 
 // What a record says beside its three lists: counts, choices, numbers, and the rotation by rows.
-#[derive(Clone, Copy)]
+#[derive(Clone, Copy, Default)]
 pub struct Header {
     pub spots: usize,
     pub matches: usize,

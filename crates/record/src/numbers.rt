@@ -53,6 +53,7 @@ pub(crate) fn number_to(bytes: &[u8], top: u64) -> Result<Number, Refusal>
 }
 
 // The number at the front of bytes that are known to begin with one: the second pass, which tests nothing but where the number ends.
+// Stays (speed): a `for` over the bytes tests each for being the last, and a record of long floats took 9 % more instructions to read.
 #[inline(always)]
 pub(crate) fn known(bytes: &[u8]) -> Number
     requires { Lies bytes.now }
@@ -61,16 +62,16 @@ pub(crate) fn known(bytes: &[u8]) -> Number
 {
     let mut v: u64 = 0;
     let mut weight: u64 = 1;
-    for (i, &byte) in bytes.iter().enumerate() {
-        let b = u64::from(byte);
-        if b < 128 {
-            return Number {
-                value: v + b * weight,
-                bytes: i + 1,
-            };
-        }
+    let mut i: usize = 0;
+    let mut b = u64::from(bytes[0]);
+    while 127 < b {
         v += (b - 128) * weight;
         weight *= 128;
+        i += 1;
+        b = u64::from(bytes[i]);
     }
-    unreachable!()
+    Number {
+        value: v + b * weight,
+        bytes: i + 1,
+    }
 }

@@ -28,6 +28,7 @@ pub(crate) trait Field: Copy {
     ghost narrow: { bits ≤ 64 };
 }
 
+// Stays (no plainer): this and the next are alike but for the width; what the two share is a trait that `rounding` does not hand out.
 impl Field for f64 {
     ghost bits = { 64 };
 

@@ -8,17 +8,19 @@ use crate::reports::Field;
 use refusal::Refusal;
 
 // The bytes after so many numbers, none more than `top`. Each takes a byte or more, so the bytes end the loop early where they are too few.
+// Not inlined, so that the loop has the processor's registers to itself: there are three calls.
+#[inline(never)]
 pub(crate) fn skip(bytes: &[u8], count: usize, top: u64) -> Result<&[u8], Refusal>
     requires { Greatest top }
     ensures { (bits : ℕ) → top + 1 ≡ 2 ^ bits
         → Over (run count bits bytes.now) result }
 {
-    let mut rest = bytes;
+    let mut at: usize = 0;
     for _ in 0..count {
-        let n = number_to(rest, top)?;
-        rest = &rest[n.bytes..];
+        let n = number_to(&bytes[at..], top)?;
+        at += n.bytes;
     }
-    Ok(rest)
+    Ok(&bytes[at..])
 }
 
 // A list takes as many numbers as it has places, from bytes that are known to begin with so many.

@@ -2,7 +2,7 @@
 ghost use Rattle.std.specs.Prelude.{◌<◌, ◌≤◌, length};
 
 use crate::trial;
-use streams::{Entries, Tally};
+use streams::Tally;
 
 // A length in four bytes, low byte first, and so many bytes: those, and what follows them. A file that ends before has no more of either.
 fn part(bytes: &[u8]) -> (&[u8], &[u8])
@@ -18,18 +18,14 @@ fn part(bytes: &[u8]) -> (&[u8], &[u8])
     }
 }
 
-pub(crate) struct Records;
-
-impl Entries for Records {
-    fn tally(rt: &HostRuntime, file: &[u8]) -> Tally {
-        let mut t = Tally::default();
-        let mut rest = file;
-        while !rest.is_empty() {
-            let (record, after) = part(rest);
-            let (expected, after) = part(after);
-            t.count(trial::run(rt, record, expected));
-            rest = after;
-        }
-        t
+pub(crate) fn tally(rt: &HostRuntime, file: &[u8]) -> Tally {
+    let mut t = Tally::default();
+    let mut rest = file;
+    while !rest.is_empty() {
+        let (record, after) = part(rest);
+        let (expected, after) = part(after);
+        t.count(trial::run(rt, record, expected));
+        rest = after;
     }
+    t
 }

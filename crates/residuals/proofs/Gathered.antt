@@ -2,13 +2,12 @@
 use mathlib.Core.Path.{◌≡◌, refl, sym, ap, ◌∙◌}
 use mathlib.Core.Bool.{Bool, true, false, cond}
 use mathlib.Core.List.{List, [], ◌∷◌, ◌++◌, append_assoc, append-nil}
-use Prim.Native.Nat.{ℕ, suc, ◌+◌, ◌-◌, ◌*◌, ◌/◌, ◌≤◌, ◌<◌, min}
-use native.Mathlib.Nat.{add-zero, min-le_right}
+use Prim.Native.Nat.{ℕ, suc, ◌+◌, ◌/◌, ◌≤◌, ◌<◌, min}
 use native.Mathlib.Numerals.{add-one}
 use native.Mathlib.Omega.{arith}
 use lib.Ieee.{Float, nan, eq}
-use lib.ListN.{get_or, length, take, drop, set, replicate, length-append, take-append-drop, get_or-append}
-use lib.Seq.{take-suc, take_at, drop_at, drop-cons, set_at, get_or-take, length-take-le}
+use lib.ListN.{get_or, length, take, drop, set, replicate, length-append}
+use lib.Seq.{take-suc, take_at, drop_at, drop-cons, drop-drop, set_at}
 use Rattle.rounding.specs.Arith.{zero64}
 use Rattle.stats.specs.Median.{median_mad_sigma, Summarised}
 use Rattle.stats.specs.declared.MedianSigma.{MedianSigma}
@@ -37,90 +36,53 @@ module _ (l : List Float) (i : ℕ) (h : i < length l) where
   unfolding in_front
   front_same e = split ∙ rw (e, append-nil)
 
-pub front_none : (l : List Float) (n : ℕ) → l ≡ take n l ++ in_front (take 0 l) ++ drop (n + 0) l
-unfolding in_front
-front_none l n = rw (append-nil, add-zero n, take-append-drop)
-
 -- After p the list is as it came: so it is when p has grown by one at its end, which is written there.
 push : (p l : List Float) (n : ℕ) (a : Float) → length p ≡ n → n < length l → set (p ++ drop n l) n a ≡ p ++ (a ∷ []) ++ drop (n + 1) l
 push p l n a e h = rw (drop-cons l n a h, set_at p (get_or l n a) (drop (suc n) l) a n e, add-one, append_assoc)
 
-module _ (o l : List Float) (n k i : ℕ) (room : 2 * n ≤ length o) (h : i < n) (few : k ≡ length (in_front (take i o)))
-    (is : l ≡ take n o ++ in_front (take i o) ++ drop (n + k) o) where
-  front : length (take n o) ≡ n
-  front = length-take-le n o (omega arith)
-
-  -- what is read is as it came
-  pub still : get_or l i nan ≡ get_or o i nan
-  still =
-      let a : i < length (take n o) = omega (arith, front) in
-      let b : i < length (take n o ++ in_front (take i o)) = simp length-append (omega arith) in
-      rw (is, get_or-append (take n o ++ in_front (take i o)) (drop (n + k) o) nan i b, get_or-append (take n o) (in_front (take i o)) nan i a, get_or-take n o i nan h)
-
-  pub copied : n + k < length o → eq (get_or l i nan) minus_one ≡ false → (k + 1 ≡ length (in_front (take (i + 1) o)))
-      × (set l (n + k) (get_or l i nan) ≡ take n o ++ in_front (take (i + 1) o) ++ drop (n + (k + 1)) o)
+-- Of the first i residuals of l, those in front stand at the front of m, which was o.
+module _ (l m o : List Float) (k i : ℕ) (h : i < length l) (few : k ≡ length (in_front (take i l))) (is : m ≡ in_front (take i l) ++ drop k o) where
+  pub copied : k < length o → eq (get_or l i nan) minus_one ≡ false
+      → (k + 1 ≡ length (in_front (take (i + 1) l))) × (set m k (get_or l i nan) ≡ in_front (take (i + 1) l) ++ drop (k + 1) o)
   copied r e =
-      let w : i < length o = omega arith in
-      let f = front_more o i w (ap (λ (x : Float). eq x minus_one) (sym still) ∙ e) in
-      let p : length (take n o ++ in_front (take i o)) ≡ n + k = simp length-append (omega (arith, front)) in
-      let q : n + (k + 1) ≡ n + k + 1 = omega arith in (
+      let f = front_more l i h e in (
         rw (f, length-append) (omega arith),
-        rw (still, q, is, f, push (take n o ++ in_front (take i o)) o (n + k) (get_or o i nan) p r, append_assoc (take n o) (in_front (take i o)) (get_or o i nan ∷ [])),
+        rw (is, f, push (in_front (take i l)) o k (get_or l i nan) (sym few) r),
       )
 
-  pub passed : eq (get_or l i nan) minus_one ≡ true → (k ≡ length (in_front (take (i + 1) o))) × (l ≡ take n o ++ in_front (take (i + 1) o) ++ drop (n + k) o)
-  passed e =
-      let w : i < length o = omega arith in
-      let f = front_same o i w (ap (λ (x : Float). eq x minus_one) (sym still) ∙ e) in
-      rw f (few, is)
-
--- The part after the first n residuals: it is those in front of the plane, and once it has become z it stands between the two others.
-module _ (o l f z : List Float) (n k : ℕ) (long : n ≤ length o) (few : k ≡ length f) (is : l ≡ take n o ++ f ++ drop (n + k) o) where
-  behind : drop n l ≡ f ++ drop (n + k) o
-  behind = rw (is, append_assoc, drop_at (take n o) (f ++ drop (n + k) o) n (length-take-le n o long))
-
-  pub part : take (n + k - n) (drop n l) ≡ f
-  part =
-      let e : n + k - n ≡ k = omega arith in
-      rw (e, behind, take_at f (drop (n + k) o) k (sym few))
-
-  pub around : take n l ++ (z ++ drop (n + k - n) (drop n l)) ≡ take n o ++ z ++ drop (n + length f) o
-  around =
-      let e : n + k - n ≡ k = omega arith in
-      let a : take n l ≡ take n o = rw (is, append_assoc, take_at (take n o) (f ++ drop (n + k) o) n (length-take-le n o long)) in
-      rw (e, behind, a, drop_at f (drop (n + k) o) k (sym few), few, ← append_assoc)
+  pub passed : eq (get_or l i nan) minus_one ≡ true → (k ≡ length (in_front (take (i + 1) l))) × (m ≡ in_front (take (i + 1) l) ++ drop k o)
+  passed e = rw (front_same l i h e) (few, is)
 
 -- those in front are no more than all
 kept_few : (b : Bool) (x : Float) (xs : List Float) (n : ℕ) → length xs ≤ n → length (cond b xs (x ∷ xs)) ≤ suc n
 kept_few true x xs n h = omega arith
 kept_few false x xs n h = omega arith
 
-front_few : (xs : List Float) → length (in_front xs) ≤ length xs
+pub front_few : (xs : List Float) → length (in_front xs) ≤ length xs
 unfolding in_front
 front_few [] = omega arith
 front_few (x ∷ xs) = kept_few (eq x minus_one) x (in_front xs) (length xs) (front_few xs)
 
-module _ (l : List Float) (n : ℕ) {m k : ℕ} (first : m ≡ min n (length l / 2)) (few : k ≡ length (in_front (take m l))) where
-  half : m ≤ length l / 2
-  half = omega (arith, min-le_right n (length l / 2))
+-- The list in two parts: a, the residuals, and b, at whose front those of a that are in front were written. What the statistics leave of the whole, from what
+-- they leave of those.
+module _ (l : List Float) (n : ℕ) {m k : ℕ} {a b w : List Float} (first : m ≡ min n (length l / 2)) (front : a ≡ take m l) (back : b ≡ drop m l)
+    (few : k ≡ length (in_front a)) (is : w ≡ in_front a ++ drop k b) where
+  part : take k w ≡ in_front a
+  part = rw (is, take_at (in_front a) (drop k b) k (sym few))
 
-  pub room : m + k ≤ length l
-  room =
-      let a : length (take m l) ≡ m = length-take-le m l (omega (arith, half)) in
-      omega (arith, half, front_few (take m l))
+  rest : drop k w ≡ drop (m + k) l
+  rest = rw (is, drop_at (in_front a) (drop k b) k (sym few), back, drop-drop k m l)
 
-  -- What the statistics leave of the whole, from what they leave of the part.
-  pub measured : (w z : List Float) {r : MedianSigma} → w ≡ take m l ++ in_front (take m l) ++ drop (m + k) l → Summarised (take (m + k - m) (drop m w)) z r
-      → Measured l (take m w ++ (z ++ drop (m + k - m) (drop m w))) n r
+  whole : (z : List Float) → a ++ (z ++ drop k w) ≡ take m l ++ z ++ drop (m + length (in_front (take m l))) l
+  whole z = rw (rest, ← append_assoc, few, front)
+
+  pub measured : (z : List Float) {r : MedianSigma} → Summarised (take k w) z r → Measured l (a ++ (z ++ drop k w)) n r
   unfolding residual_median_sigma
-  measured w z is s =
-      let f = in_front (take m l) in
-      let long : m ≤ length l = omega (arith, half) in
-      let vals = part l w f z m k long few is in
-      record {
-        result = s.result ∙ ap median_mad_sigma vals ∙ ap (λ (x : ℕ). median_mad_sigma (in_front (take x l))) first;
-        lists =
-            around l w f z m k long few is
-            ∙ ap (λ (y : List Float). take m l ++ y ++ drop (m + length f) l) (s.scratch ∙ ap (λ (v : List Float). replicate (length v) zero64) vals)
-            ∙ ap (λ (x : ℕ). take x l ++ replicate (length (in_front (take x l))) zero64 ++ drop (x + length (in_front (take x l))) l) first;
-      }
+  measured z s = record {
+    result = s.result ∙ ap median_mad_sigma part ∙ ap (λ (x : List Float). median_mad_sigma (in_front x)) front ∙ ap (λ (x : ℕ). median_mad_sigma (in_front (take x l))) first;
+    lists =
+        whole z
+        ∙ ap (λ (y : List Float). take m l ++ y ++ drop (m + length (in_front (take m l))) l)
+        (s.scratch ∙ ap (λ (v : List Float). replicate (length v) zero64) part ∙ ap (λ (v : List Float). replicate (length (in_front v)) zero64) front)
+        ∙ ap (λ (x : ℕ). take x l ++ replicate (length (in_front (take x l))) zero64 ++ drop (x + length (in_front (take x l))) l) first;
+  }

@@ -1,21 +1,18 @@
 -- The matches that a clip keeps, one by one, and how they move to the front. Assumes nothing.
-use mathlib.Core.Path.{◌≡◌, sym, ap, ◌∙◌}
-use mathlib.Core.Bool.{Bool, true, false}
+use mathlib.Core.Path.{◌≡◌, sym, ap, ◌∙◌, refl}
+use mathlib.Core.Bool.{Bool, true, false, cond}
 use mathlib.Core.List.{List, [], ◌∷◌, ◌++◌, append_assoc}
-use Prim.Native.Nat.{ℕ, suc, ◌+◌, ◌-◌, ◌*◌, ◌/◌, ◌≤◌, ◌<◌}
+use Prim.Native.Nat.{ℕ, zero, suc, ◌+◌, ◌-◌, ◌*◌, ◌/◌, ◌≤◌, ◌<◌}
 use native.Mathlib.Numerals.{add-one}
 use native.Mathlib.Omega.{arith}
 use borrow.Author.Tests.{lt-ltb, le-ltb, le-leb, lt-leb}
 use lib.Ieee.{Float, nan}
-use mir.Val.{bool_byte}
 use lib.ListN.{get_or, length, take, drop, set, length-set, take-append-drop}
 use lib.Seq.{get_or-drop, drop-drop, drop-set-lt, take-suc-set, length-take-le}
 use Rattle.residuals.specs.Residual.{keeps, kept_from, kept, clipped, mad_clip_matches}
 use Rattle.std.proofs.Common.{Some, None}
-
--- what a test of the code says of the residual at i
-pub tested : (t : Float) (rs : List Float) (i : ℕ) {x : Float} {b v : Bool} → x ≡ get_or rs i nan → b ≡ keeps t x → b ≡ v → keeps t (get_or rs i nan) ≡ v
-tested t rs i p q r = ap (keeps t) (sym p) ∙ sym q ∙ r
+use Rattle.std.specs.List.{count_by, range_with_len}
+use Rattle.std.proofs.lemmas.List.Sums.{sum_by-cons}
 
 module _ (t : Float) (rs : List Float) (ms : List ℕ) (n i : ℕ) where
   pub kept_next : i < n → keeps t (get_or rs i nan) ≡ true
@@ -39,20 +36,26 @@ module _ (t : Float) (rs : List Float) (ms : List ℕ) (n i : ℕ) where
 
 -- ---- how many
 
-module _ (t : Float) (rs : List Float) (n i k : ℕ)
-    (left : (ms : List ℕ) → 2 * k + length (kept_from t rs ms i (n - i)) ≡ length (kept_from t rs ms 0 n)) where
-  -- a turn of the loop, whose test is b
-  pub count_turn : i < n → {x : Float} {b : Bool} {u : ℕ} → x ≡ get_or rs i nan → b ≡ keeps t x → u ≡ bool_byte b
-      → (u ≤ 1) × ((ms : List ℕ) → 2 * (k + u) + length (kept_from t rs ms (i + 1) (n - (i + 1))) ≡ length (kept_from t rs ms 0 n))
-  count_turn h {x} {b} {u} p q r = go b (q ∙ ap (keeps t) p) r
+module _ (t : Float) (rs : List Float) (ms : List ℕ) where
+  -- two numbers for each match that is kept
+  pub kept_count : (i n : ℕ) → length (kept_from t rs ms i n) ≡ 2 * count_by (λ j. keeps t (get_or rs j nan)) (range_with_len i n)
+  unfolding kept_from
+  kept_count i zero = refl
+  kept_count i (suc n) = go (keeps t (get_or rs i nan)) refl (kept_count (i + 1) n)
     where
-      go : (v : Bool) → v ≡ keeps t (get_or rs i nan) → u ≡ bool_byte v
-          → (u ≤ 1) × ((ms : List ℕ) → 2 * (k + u) + length (kept_from t rs ms (i + 1) (n - (i + 1))) ≡ length (kept_from t rs ms 0 n))
-      go true e s = (omega arith, λ ms. omega (arith, ap length (kept_next t rs ms n i h (sym e)), left ms))
-      go false e s = (omega arith, λ ms. omega (arith, ap length (kept_not t rs ms n i h (sym e)), left ms))
-
-  pub count_done : n ≤ i → (ms : List ℕ) → length (kept_from t rs ms 0 n) ≡ 2 * k
-  count_done h ms = omega (arith, ap length (kept_none t rs ms n i h), left ms)
+      go : (v : Bool) → keeps t (get_or rs i nan) ≡ v
+          → length (kept_from t rs ms (i + 1) n) ≡ 2 * count_by (λ j. keeps t (get_or rs j nan)) (range_with_len (i + 1) n)
+          → length (kept_from t rs ms i (suc n)) ≡ 2 * count_by (λ j. keeps t (get_or rs j nan)) (range_with_len i (suc n))
+      go true e h =
+          let s : count_by (λ j. keeps t (get_or rs j nan)) (range_with_len i (suc n)) ≡ 1 + count_by (λ j. keeps t (get_or rs j nan)) (range_with_len (i + 1) n) =
+          sum_by-cons (λ j. cond (keeps t (get_or rs j nan)) 1 0) i (range_with_len (i + 1) n) ∙ ap (λ (v : Bool). cond v 1 0 + count_by (λ j. keeps t (get_or rs j nan)) (range_with_len (i + 1) n)) e in
+          let l : length (kept_from t rs ms i (suc n)) ≡ 2 + length (kept_from t rs ms (i + 1) n) = rw (kept_from, e, ← add-one i) (omega arith) in
+          omega (arith, s, l, h)
+      go false e h =
+          let s : count_by (λ j. keeps t (get_or rs j nan)) (range_with_len i (suc n)) ≡ 0 + count_by (λ j. keeps t (get_or rs j nan)) (range_with_len (i + 1) n) =
+          sum_by-cons (λ j. cond (keeps t (get_or rs j nan)) 1 0) i (range_with_len (i + 1) n) ∙ ap (λ (v : Bool). cond v 1 0 + count_by (λ j. keeps t (get_or rs j nan)) (range_with_len (i + 1) n)) e in
+          let l : length (kept_from t rs ms i (suc n)) ≡ length (kept_from t rs ms (i + 1) n) = rw (kept_from, e, ← add-one i) refl in
+          omega (arith, s, l, h)
 
 -- ---- to the front: of m, first k places are those kept so far, and the rest is as it came
 

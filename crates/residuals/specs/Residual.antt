@@ -22,7 +22,7 @@ unfoldable pub apart : View → Spot → Option Plane → Float
 unfolding predict_tanplane root
 apart w c None = minus_one
 apart w c (Some p) =
-    let q = predict_tanplane c.px c.py w.cos_t w.sin_t w.ps in
+    let q = predict_tanplane c.px c.py w.roll.cos_t w.roll.sin_t w.roll.ps in
     let dxi = q.xi ⊖ p.xi in
     let deta = q.eta ⊖ p.eta in
     root binary64 (dxi ⊗ dxi ⊕ deta ⊗ deta)

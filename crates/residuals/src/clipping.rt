@@ -1,5 +1,7 @@
 // The matches that lie too far off are dropped.
-ghost use Rattle.std.specs.Prelude.{◌≡◌, List, ◌++◌, ℕ, ◌*◌, ◌/◌, ◌≤◌, length, drop};
+ghost use Rattle.std.specs.Prelude.{◌≡◌, ◌++◌, ◌/◌, length, drop, count_by, get_or};
+ghost use Rattle.std.specs.Float.{nan};
+ghost use Rattle.std.specs.List.{range_with_len};
 ghost use Rattle.residuals.specs.Residual.{keeps, kept_from, clipped, mad_clip_matches};
 
 use crate::NO_RESIDUAL;
@@ -19,15 +21,18 @@ fn keeps(threshold: f64, x: f64) -> bool
     x != NO_RESIDUAL && x <= threshold
 }
 
-// How many of the first n matches are kept. The matches themselves are not looked at, so it is so many of any list of them.
-fn count_kept(residuals: &[f64], n: usize, threshold: f64) -> usize
-    ensures { (result ≤ n) × ((ms : List ℕ) → length (kept_from threshold residuals.now ms 0 n) ≡ 2 * result) }
+// Whether the match i is kept. Past the end of the residuals it has none.
+fn kept_at(residuals: &[f64], i: usize, threshold: f64) -> bool
+    ensures { result ≡ keeps threshold (get_or residuals.now i nan) }
 {
-    let mut k = 0;
-    for i in 0..n {
-        k += usize::from(keeps(threshold, at(residuals, i, 0.0 / 0.0)));
-    }
-    k
+    keeps(threshold, at(residuals, i, 0.0 / 0.0))
+}
+
+// How many of the first n matches are kept: those past the end of the residuals are not.
+fn count_kept(residuals: &[f64], n: usize, threshold: f64) -> usize
+    ensures { result ≡ count_by (λ i. keeps threshold (get_or residuals.now i nan)) (range_with_len 0 n) }
+{
+    (0..n).filter(|&i| kept_at(residuals, i, threshold)).count()
 }
 
 // Those that are kept move to the front, and what stands after them stays.
@@ -40,7 +45,7 @@ fn compact(residuals: &[f64], matches: &mut [usize], threshold: f64)
 {
     let mut k = 0;
     for i in 0..matches.len() / 2 {
-        if keeps(threshold, at(residuals, i, 0.0 / 0.0)) {
+        if kept_at(residuals, i, threshold) {
             let spot = matches[2 * i];
             let direction = matches[2 * i + 1];
             matches[k] = spot;

@@ -1,5 +1,5 @@
 // What is left, on the tangent plane, between each match's spot and its direction.
-ghost use Rattle.std.specs.Prelude.{◌≡◌, ◌++◌, ◌+◌, ◌*◌, ◌≤◌, Some, length, take, drop};
+ghost use Rattle.std.specs.Prelude.{◌≡◌, ◌++◌, ◌≤◌, Some, length, drop};
 ghost use Rattle.fit.specs.Rows.{rows, row_of, view_of};
 ghost use Rattle.residuals.specs.Residual.{apart, residual_of, residuals, in_front, Computed, Measured};
 
@@ -16,7 +16,7 @@ use stats::{MedianSigma, median_mad_sigma};
 fn apart(w: &View, c: Spot, p: Plane) -> f64
     ensures { result ≡ apart w.now c (Some p) }
 {
-    let q = predict_tanplane(c.px, c.py, w.cos_t, w.sin_t, w.ps);
+    let q = predict_tanplane(c.px, c.py, w.roll);
     let dxi = q.xi - p.xi;
     let deta = q.eta - p.eta;
     sqrt(dxi * dxi + deta * deta)
@@ -35,6 +35,7 @@ fn residual_of(w: &View, c: Spot, d: [f32; 3]) -> f64
 
 // The residuals of all matches, with the view given.
 // Stays (form of 01): spots, directions and matches are handed on as `compute_residuals` is lent them: flat lists, each by itself.
+#[tactic(auto, unfolding(fit::specs::Rows::rows))]
 fn residuals(
     matches: &[usize],
     directions: &[f32],
@@ -73,18 +74,17 @@ pub fn compute_residuals(
     residuals(matches, directions, spots, &view_of(pose, cut), out)
 }
 
-// The first n residuals, without the marks, are copied to the places after them: so many.
-fn gather(l: &mut [f64], n: usize) -> usize
-    requires { 2 * n ≤ length l.old }
-    ensures { (result ≡ length (in_front (take n l.old)))
-        × (l.new ≡
-        take n l.old ++ in_front (take n l.old) ++ drop (n + result) l.old) }
+// The residuals, without the marks, are copied to the front of another list: so many.
+#[tactic(auto, unfolding(crate::specs::Residual::in_front))]
+fn gather(residuals: &[f64], scratch: &mut [f64]) -> usize
+    requires { length residuals.now ≤ length scratch.old }
+    ensures { (result ≡ length (in_front residuals.now))
+        × (scratch.new ≡ in_front residuals.now ++ drop result scratch.old) }
 {
     let mut k = 0;
-    for i in 0..n {
-        let x = l[i];
+    for &x in residuals {
         if x != NO_RESIDUAL {
-            l[n + k] = x;
+            scratch[k] = x;
             k += 1;
         }
     }
@@ -93,11 +93,12 @@ fn gather(l: &mut [f64], n: usize) -> usize
 
 // Median and standard deviation of the first n residuals, of those in front of the plane. n counts as half the list where it is more: the
 // places after the residuals are scratch, and those used are left zero.
+// Stays (fixed memory): the residuals and the scratch behind them are one lent list, so that their number comes beside it.
 pub fn residual_median_sigma(l: &mut [f64], n: usize) -> MedianSigma
     ensures { Measured l.old l.new n result }
 {
     let from = n.min(l.len() / 2);
-    let count = gather(l, from);
-    let to = from + count;
-    median_mad_sigma(&mut l[from..to])
+    let (residuals, scratch) = l.split_at_mut(from);
+    let count = gather(residuals, scratch);
+    median_mad_sigma(&mut scratch[..count])
 }

@@ -1,8 +1,7 @@
 -- Fronts of lists: a count that goes past the end takes the whole list. Assumes nothing.
 use mathlib.Core.Path.{◌≡◌, sym, ap, ◌∙◌}
 use mathlib.Core.List.{List, [], ◌∷◌}
-use Prim.Native.Nat.{ℕ, zero, suc, ◌-◌, ◌*◌, ◌/◌, ◌≤◌, ◌<◌, min}
-use native.Mathlib.Nat.{mul_comm, div-lt_iff_lt-mul, le-div_iff_mul-le}
+use Prim.Native.Nat.{ℕ, zero, suc, ◌-◌, ◌*◌, min}
 use native.Mathlib.Omega.{arith}
 use lib.ListN.{length, take}
 use lib.Seq.{take-nil}
@@ -13,18 +12,10 @@ use Rattle.entry.specs.Arguments.{Call, Lent}
 use Rattle.wcs_refine.specs.Call.{outcome}
 use Rattle.refusal.specs.declared.Refusal.{Refusal}
 use Rattle.wcs_refine.specs.declared.WcsRefineResult.{WcsRefineResult}
-use Rattle.wcs_refine.specs.Returned.{Values, returned, called, Answers}
+use Rattle.wcs_refine.specs.Returned.{returned, called, Answers}
 use Rattle.record.specs.Header.{intake, numbered}
 use Rattle.record.specs.declared.Header.{Header}
-use Rattle.printing.specs.Text.{answer_text, set_from}
 use Rattle.response.specs.Response.{asked}
-
--- `count` things of `each` numbers take more than `most` places, or not, as the quotient tells.
-pub past_most : (each count most : ℕ) → 0 < each → most / each < count → most ≤ each * count
-past_most each count most h p = omega (arith, mul_comm each count, (div-lt_iff_lt-mul h).0 p)
-
-pub within_most : (each count most : ℕ) → 0 < each → count ≤ most / each → each * count ≤ most
-within_most each count most h p = omega (arith, mul_comm each count, (le-div_iff_mul-le h).0 p)
 
 take_min : {A : Type 0} (k : ℕ) (l : List A) → take (min k (length l)) l ≡ take k l
 take_min zero l =
@@ -53,11 +44,3 @@ on_fronts h ss ms ds lent r {s} {m} {d} es em ed a =
     ∙ ap (λ (x : List Float). returned (outcome (with_header h lent x (take (m - 0) ms) (take (d - 0) ds)))) (front (spot_numbers * h.spots) ss es)
     ∙ ap (λ (x : List ℕ). returned (outcome (with_header h lent (take (spot_numbers * h.spots) ss) x (take (d - 0) ds)))) (front (2 * h.matches) ms em)
     ∙ ap (λ (x : List Float). returned (outcome (with_header h lent (take (spot_numbers * h.spots) ss) (take (2 * h.matches) ms) x))) (front (3 * h.directions) ds ed)
-
--- An answer printed with a front of the result list.
-pub on_front : (r : Values) (l before : List ℕ) {m n : ℕ} {after : List ℕ} → m ≡ min (2 * r.matches) (length l)
-    → (n ≡ min (length (answer_text r (take (m - 0) l))) (length before)) × (after ≡ set_from 0 (answer_text r (take (m - 0) l)) before)
-    → (n ≡ min (length (answer_text r (take (2 * r.matches) l))) (length before)) × (after ≡ set_from 0 (answer_text r (take (2 * r.matches) l)) before)
-on_front r l before {m} {n} {after} e p =
-    let f = front (2 * r.matches) l e in
-    (p.0 ∙ ap (λ (x : List ℕ). min (length (answer_text r x)) (length before)) f, p.1 ∙ ap (λ (x : List ℕ). set_from 0 (answer_text r x) before) f)

@@ -19,13 +19,9 @@ use wcs_refine::{WcsRefineResult, wcs_refine};
 
 // The places of `count` things of `each` numbers, and never more than a list has: so nothing overflows, whatever the count.
 fn places(each: usize, count: usize, most: usize) -> usize
-    requires { 0 < each }
     ensures { result ≡ min (each * count) most }
 {
-    if most / each < count {
-        return most;
-    }
-    each * count
+    each.saturating_mul(count).min(most)
 }
 
 // The call that a header asks for, on the fronts of longer lists, as long as the header's counts say.
@@ -76,10 +72,7 @@ fn call(
 fn reported(answer: Result<WcsRefineResult, Refusal>) -> usize
     ensures { result ≡ (handed answer).matches }
 {
-    match answer {
-        Ok(r) => r.matches,
-        Err(_) => 0,
-    }
+    answer.map_or(0, |r| r.matches)
 }
 
 // The answer with the matches that it reports, which stand at the front of the result list.

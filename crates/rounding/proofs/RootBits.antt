@@ -1,5 +1,5 @@
 -- The pattern that `root_bits` makes is that of the root, over every format. Assumes nothing.
-use Rattle.std.proofs.Common.{◌≡◌, ℕ, zero, suc, ◌+◌, ◌-◌, ◌*◌, ◌/◌, ◌%◌, ◌^◌, ◌<◌, ◌≤◌, min, true, false, ◌⊎◌, sym, refl, ap, ◌∙◌, subst, inl, inr, true≢false, le_trans, le_of_eq, lt_of_lt_of_le, lt_of_le_of_lt, lt_irrefl, mul-le-mul_right, mod-lt, mod-eq_of_lt, mul_assoc, div-lt_iff_lt-mul, mul-lt-mul_of_pos_right, mul-pos, div-add-mod', zero-add, zero-mul, mul_right_comm, add-one, arith, lit≤, pow_pos, pow_mono, pow-add, shl_lt}
+use Rattle.std.proofs.Common.{◌≡◌, ℕ, zero, suc, ◌+◌, ◌-◌, ◌*◌, ◌/◌, ◌%◌, ◌^◌, ◌<◌, ◌≤◌, min, true, false, sym, refl, ap, ◌∙◌, subst, inr, true≢false, le_trans, le_of_eq, lt_of_lt_of_le, lt_of_le_of_lt, lt_irrefl, mul-le-mul_right, mod-lt, mod-eq_of_lt, mul_assoc, div-lt_iff_lt-mul, mul-lt-mul_of_pos_right, mul-pos, div-add-mod', zero-add, zero-mul, mul_right_comm, add-one, arith, lit≤, pow_pos, pow_mono, pow-add, shl_lt}
 use Prim.Native.Nat.{compare}
 use native.Mathlib.Nat.{pow-succ'}
 use lib.Pow.{pow-lt}
@@ -115,14 +115,6 @@ module _ (f : Format) (b h l : ℕ) (P : Positive f b h l) where
 
   pub start_ge : 2 ^ 62 ≤ q * 2 ^ z % 2 ^ 64 / 2 ^ bit_and E 1
   start_ge = subst (λ (x : ℕ). 2 ^ 62 ≤ x) (sym start_is) (align.a_ge (h + 1) q k l z (omega (arith, h_lt)) q_lt top_is.0 top_is.1 l_ge)
-
-  -- the root's digits, one more than the format's
-  pub lengths : (h + 2 ≡ 54) ⊎ (h + 2 ≡ 25)
-  lengths = go f P.digits
-    where
-      go : (f : Format) → prec f ≡ h + 1 → (h + 2 ≡ 54) ⊎ (h + 2 ≡ 25)
-      go binary32 e = inr (omega arith)
-      go binary64 e = inl (omega arith)
 
   module _ (R rest : ℕ) (e : R * R + rest ≡ q * 2 ^ z / 2 ^ (E % 2) * 4 ^ (h + 1 + 1) / 2 ^ 64) (le : rest ≤ 2 * R) where
     abbrev m : ℕ

@@ -1,4 +1,4 @@
--- The methods of Rust's f64 that the run uses and Rattle lacks, as Rust has them. Definitions only.
+-- The methods of Rust's f64 as the run uses them, of every float, a NaN too. Definitions only.
 -- `fin s m e` is m * 2 ^ e, negative where s is true, and `nan` stands for every NaN. Assumes nothing.
 use Rattle.std.specs.Prelude.{ℕ, ◌+◌, ◌-◌, Bool, true, false, cond, not, ◌||◌, is_nan, nat_le, nat_lt, to_bits, Float}
 use Prim.Native.Nat

@@ -1,8 +1,10 @@
 // The two formats of floats, and what the functions over both ask of each: how many digits it has, and the machine's own tests and conversions.
-ghost use Rattle.std.specs.Prelude.{◌≡◌, ℕ, ◌+◌, ◌*◌, ◌<◌, not, refl, IsTrue, is_nan, from_bits, to_bits, Float};
+ghost use Rattle.std.specs.Prelude.{◌≡◌, ℕ, ◌+◌, ◌*◌, ◌/◌, ◌^◌, ◌<◌, ◌≤◌, not, refl, IsTrue, is_nan, from_bits, to_bits, Float};
 ghost use Rattle.std.specs.Float.{Format, binary32, binary64, nan, NotNan, NotNanBits};
 ghost use Rattle.std.specs.Float.Ieee.{prec, low, hid, ones, top, eq, lt, fits};
 
+use crate::whole_root;
+use crate::whole_root::{Rooted, Topped};
 use std::num::{
     f32_from_bits_with_nan, f32_to_bits_with_nan, f64_from_bits_with_nan, f64_to_bits_with_nan,
 };
@@ -61,6 +63,10 @@ pub trait Binary: Copy {
         ensures is { result ≡ to_bits format (value self) }
         ensures held { IsTrue (fits format (value self)) };
 
+    // The root of a * 4^n / 2^64 for n digits, two more than DIGITS.
+    fn whole_root(a: Topped) -> Rooted
+        ensures { result.root * result.root + result.rest ≡ a.word * 4 ^ (DIGITS + 2) / 2 ^ 64 };
+
     ghost digits_is: { prec format ≡ DIGITS + 1 };
 
     ghost least_is: { low format ≡ LEAST };
@@ -68,6 +74,7 @@ pub trait Binary: Copy {
     ghost infinite_is: { INFINITE ≡ ones format * hid format };
 }
 
+// Stays (no plainer): the impls of the two widths are alike where they call the width's own conversions, of which the library has no trait.
 impl Binary for f64 {
     type Bits = u64;
 
@@ -125,6 +132,10 @@ impl Binary for f64 {
 
     fn pattern(self) -> u64 {
         f64::to_bits(self)
+    }
+
+    fn whole_root(a: Topped) -> Rooted {
+        whole_root::double(a)
     }
 }
 
@@ -185,5 +196,9 @@ impl Binary for f32 {
 
     fn pattern(self) -> u64 {
         u64::from(f32::to_bits(self))
+    }
+
+    fn whole_root(a: Topped) -> Rooted {
+        whole_root::single(a)
     }
 }

@@ -1,5 +1,6 @@
-// The arithmetic of floats that Rattle lacks, as IEEE 754 and Rust have it: the square root and the narrowing, rounded to nearest with ties to
-// even, the widening, the conversions from and to bit patterns, and the methods of `f64` that the run uses. No public function asks anything of its caller.
+// The arithmetic of floats that 01 asks for by itself, as IEEE 754 and Rust have it: the square root and the narrowing, rounded to nearest with
+// ties to even and proved over whole numbers, and the widening; the conversions from and to bit patterns; and the methods of `f64` as the run
+// uses them, of every float. No public function asks anything of its caller.
 #![tactic(auto)]
 
 mod whole_root; // whole_root.rt: the root of a whole number

@@ -27,6 +27,7 @@ fn narrow_bits(a: u64) -> u64
 }
 
 // x as the nearest `f32`, a tie to the even one, and an infinity past the largest.
+// Stays (form of 01): "Both are proved over whole numbers", of the root and the narrowing, which are delivered by themselves.
 pub fn narrow(x: f64) -> f32
     ensures { result ≡ narrowed x }
 {

@@ -2,10 +2,19 @@
 ghost use Rattle.std.specs.Prelude.{◌≡◌, ◌+◌, ◌*◌, ◌/◌, ◌^◌, ◌<◌, ◌≤◌, ◌⊎◌};
 ghost use Rattle.rounding.specs.Root.{whole_root};
 
+// By what is left the root is the greatest: the square of the next one is greater by more than that.
 #[derive(Drop)]
-pub(crate) struct Rooted {
-    pub(crate) root: u64,
-    pub(crate) rest: u64,
+pub struct Rooted {
+    pub root: u64,
+    pub rest: u64,
+    ghost greatest: { rest ≤ 2 * root },
+}
+
+// A word with its top digit or the next set: so far have the digits of the number that a root is asked of been moved up.
+#[derive(Clone, Copy)]
+pub struct Topped {
+    pub word: u64,
+    ghost high: { 2 ^ 62 ≤ word },
 }
 
 // 1 where a is below b, and 0 where it is not.
@@ -16,14 +25,14 @@ fn below(a: u64, b: u64) -> u64
 }
 
 // The whole root of the top 16 digits of a, or one more: a cubic in the top 9 digits comes as near at each of their values.
-fn first_root(a: u64) -> u64
-    requires { 2 ^ 62 ≤ a }
-    ensures { (whole_root (a / 2 ^ 48) ≤ result) × (result ≤ whole_root (a / 2 ^ 48) + 1) }
+fn first_root(a: Topped) -> u64
+    ensures { (whole_root (a.word / 2 ^ 48) ≤ result) × (result ≤ whole_root (a.word / 2 ^ 48) + 1) }
 {
-    let y = 511 - (a >> 55);
+    let y = 511 - (a.word >> 55);
     (0x2018_0000 - y * (y * y + 0x8_7000)) >> 21
 }
 
+// Stays (no plainer): that a number is a whole root or one more is said of three numbers below, of another one each time, and stored in none.
 // The whole root of m, or one more, from one of m / 4^b, s: a step of Newton's goes half of the way from s * 2^b to what m is divided by that.
 fn nearer(s: u64, b: u64, m: u64) -> u64
     requires { (whole_root (m / 4 ^ b) ≤ s) × (s ≤ whole_root (m / 4 ^ b) + 1)
@@ -36,7 +45,7 @@ fn nearer(s: u64, b: u64, m: u64) -> u64
 // The whole root of m, and what its square leaves, from the root or one more.
 fn settled(near: u64, m: u64) -> Rooted
     requires { (whole_root m ≤ near) × (near ≤ whole_root m + 1) }
-    ensures { (result.root * result.root + result.rest ≡ m) × (result.rest ≤ 2 * result.root) }
+    ensures { result.root * result.root + result.rest ≡ m }
 {
     let s = near - (near >> 32); // a root is below 2^32, and then a square fits
     let square = s * s;
@@ -47,44 +56,49 @@ fn settled(near: u64, m: u64) -> Rooted
     }
 }
 
-// From the root s of a number, and what its square leaves, r, to those of the number times 4^22: one division gives 22 digits of the root,
-// at most one too many, which is rare.
-fn longer(s: u64, r: u64) -> Rooted
-    requires { (r ≤ 2 * s) × (2 ^ 22 ≤ 2 * s) × (s < 2 ^ 32) }
-    ensures { (result.root * result.root + result.rest ≡ (s * s + r) * 4 ^ 22) × (result.rest ≤ 2 * result.root) }
+// From the root of a number to that of the number times 4^22: one division gives 22 digits of the root, at most one too many, which is rare.
+fn longer(w: Rooted) -> Rooted
+    requires { (2 ^ 22 ≤ 2 * w.root) × (w.root < 2 ^ 32) }
+    ensures { result.root * result.root + result.rest ≡ (w.root * w.root + w.rest) * 4 ^ 22 }
 {
-    let t = r << 22;
-    let d = 2 * s;
+    let t = w.rest << 22;
+    let d = 2 * w.root;
     let x = t / d;
     let u = t % d;
-    let root = (s << 22) + x;
+    let root = (w.root << 22) + x;
     let have = u << 22;
     let square = x * x;
     if square <= have {
-        Rooted {
+        return Rooted {
             root,
             rest: have - square,
-        }
-    } else {
-        Rooted {
-            root: root - 1,
-            rest: have + 2 * root - 1 - square,
-        }
+        };
+    }
+    Rooted {
+        root: root - 1,
+        rest: have + 2 * root - 1 - square,
     }
 }
 
-// The root of a * 4^n / 2^64, for an a with its top digit or the next set: from 8 digits each division doubles them, or nearly.
-pub(crate) fn whole_root(a: u64, n: u64) -> Rooted
-    requires { (2 ^ 62 ≤ a) × ((n ≡ 54) ⊎ (n ≡ 25)) }
-    ensures { (result.root * result.root + result.rest ≡ a * 4 ^ n / 2 ^ 64) × (result.rest ≤ 2 * result.root) }
+// The whole root of the top 32 digits of a, or one more: from 8 digits each division doubles them, or nearly.
+fn half(a: Topped) -> u64
+    ensures { (whole_root (a.word / 2 ^ 32) ≤ result) × (result ≤ whole_root (a.word / 2 ^ 32) + 1) }
 {
-    let e = first_root(a);
-    let g = nearer(e, 8, a >> 32);
-    if n == 25 {
-        let m = a >> 14;
-        settled(nearer(g, 9, m), m)
-    } else {
-        let Rooted { root, rest } = settled(nearer(g, 16, a), a);
-        longer(root, rest)
-    }
+    nearer(first_root(a), 8, a.word >> 32)
+}
+
+// The root of a * 4^25 / 2^64.
+pub(crate) fn single(a: Topped) -> Rooted
+    ensures { result.root * result.root + result.rest ≡ a.word * 4 ^ 25 / 2 ^ 64 }
+{
+    let m = a.word >> 14;
+    settled(nearer(half(a), 9, m), m)
+}
+
+// The same of a * 4^54 / 2^64.
+pub(crate) fn double(a: Topped) -> Rooted
+    ensures { result.root * result.root + result.rest ≡ a.word * 4 ^ 54 / 2 ^ 64 }
+{
+    let m = a.word;
+    longer(settled(nearer(half(a), 16, m), m))
 }

@@ -32,17 +32,24 @@ fn better(p: Pivot, i: usize, v: f64) -> Pivot
     }
 }
 
+// A column of the matrix by its index, which is that of the row with its diagonal entry too.
+#[derive(Clone, Copy)]
+struct Column {
+    at: usize,
+    ghost inside: { at < 3 },
+}
+
 // The largest magnitude of a column from the diagonal down.
-fn pivot_of(m: [[f64; 4]; 3], col: usize) -> Pivot
-    requires { col < 3 }
-    ensures { (result ≡ pivot_of m col) × (result.row < 3) }
+fn pivot_of(m: [[f64; 4]; 3], col: Column) -> Pivot
+    ensures { (result ≡ pivot_of m col.at) × (result.row < 3) }
 {
+    let at = col.at;
     let mut p = Pivot {
-        row: col,
-        size: abs(m[col][col]),
+        row: at,
+        size: abs(m[at][at]),
     };
-    for i in col + 1..3 {
-        p = better(p, i, m[i][col]);
+    for i in at + 1..3 {
+        p = better(p, i, m[i][at]);
     }
     p
 }
@@ -74,20 +81,20 @@ fn minus_from(col: usize, f: f64, mut r: [f64; 4], pivot: [f64; 4]) -> [f64; 4]
 }
 
 #[tactic(auto, unfolding(crate::specs::Solve::reduced))]
-fn reduced(col: usize, pivot: [f64; 4], r: [f64; 4]) -> [f64; 4]
-    requires { col < 3 }
-    ensures { result ≡ reduced col pivot r }
+fn reduced(col: Column, pivot: [f64; 4], r: [f64; 4]) -> [f64; 4]
+    ensures { result ≡ reduced col.at pivot r }
 {
-    minus_from(col, r[col] / pivot[col], r, pivot)
+    let at = col.at;
+    minus_from(at, r[at] / pivot[at], r, pivot)
 }
 
 // The column is cleared below the diagonal.
-fn eliminated(mut m: [[f64; 4]; 3], col: usize) -> [[f64; 4]; 3]
-    requires { col < 3 }
-    ensures { result ≡ eliminated m col }
+#[tactic(auto, unfolding(crate::specs::Solve::eliminated))]
+fn eliminated(mut m: [[f64; 4]; 3], col: Column) -> [[f64; 4]; 3]
+    ensures { result ≡ eliminated m col.at }
 {
-    let pivot = m[col];
-    for i in col + 1..3 {
+    let pivot = m[col.at];
+    for i in col.at + 1..3 {
         m[i] = reduced(col, pivot, m[i]);
     }
     m
@@ -129,16 +136,18 @@ fn substituted(m: [[f64; 4]; 3]) -> Solution
 
 // The solution of a x = b. It fails where a column's largest magnitude is below TINY or not finite, where a diagonal entry is below TINY,
 // and where an entry of the solution is not finite.
+#[tactic(auto, unfolding(crate::specs::Solve::solve3x3))]
 pub fn solve_3x3(a: [[f64; 3]; 3], b: [f64; 3]) -> Solution
     ensures { result ≡ solve3x3 a b }
 {
     let mut m = beside(a, b);
-    for col in 0..3 {
+    for at in 0..3 {
+        let col = Column { at };
         let p = pivot_of(m, col);
         if !usable(p.size) {
             return Solution::Failed;
         }
-        m = eliminated(swapped(m, col, p.row), col);
+        m = eliminated(swapped(m, at, p.row), col);
     }
     substituted(m)
 }

@@ -1,7 +1,8 @@
 // Files of entries, each with what is expected of it.
-ghost use Rattle.std.specs.Prelude.{◌≡◌, ◌+◌, ◌-◌, ◌^◌, cond, min};
+ghost use Rattle.std.specs.Prelude.{◌≡◌, ◌+◌, ◌-◌, ◌^◌, cond, min, Some};
+ghost use Rattle.streams.specs.Text.{tally_text, told_text};
 
-use crate::read_file;
+use crate::Unread;
 use std::fmt;
 
 // How many entries came out as expected, and how many did not.
@@ -26,34 +27,25 @@ impl Tally {
 }
 
 impl fmt::Display for Tally {
+    ghost output = { λ t. Some (tally_text t) };
+
     fn fmt<W: fmt::Write>(&self, f: &mut fmt::Formatter<W>) -> fmt::Result {
         write!(f, "{} as expected, {} not", self.same, self.other)
     }
 }
 
-// What a program does with the entries of a file; it may write out those that did not come out.
-pub trait Entries {
-    fn tally(rt: &HostRuntime, file: &[u8]) -> Tally;
-}
+// What became of a file: the tally of its entries, or why it is not to be had.
+#[derive(Clone, Copy)]
+pub struct Told(pub Result<Tally, Unread>);
 
-// Of each of the files whose names these are, with spaces between them: its name, and what became of its entries, or why it is not to be had. It
-// promises nothing, since no clause can say which bytes come or are written.
-pub fn each_file<E: Entries>(rt: &HostRuntime, names: &str) {
-    for name in names.split(' ') {
-        run_file::<E>(rt, name);
-    }
-}
+impl fmt::Display for Told {
+    ghost output = { λ t. Some (told_text t.0) };
 
-fn run_file<E: Entries>(rt: &HostRuntime, name: &str) {
-    let _ = print!(rt; "{name}: ");
-    let mut room = [0u8; 65536];
-    match read_file(rt, name, &mut room) {
-        Ok(n) => {
-            let tally = E::tally(rt, &room[..n]);
-            let _ = println!(rt; "{tally}");
-        }
-        Err(why) => {
-            let _ = println!(rt; "{why}");
+    #[tactic(auto, unfolding(crate::specs::Text::told_text))]
+    fn fmt<W: fmt::Write>(&self, f: &mut fmt::Formatter<W>) -> fmt::Result {
+        match self.0 {
+            Ok(tally) => write!(f, "{tally}"),
+            Err(why) => write!(f, "{why}"),
         }
     }
 }

@@ -1,11 +1,12 @@
 // What the programs read: rooms filled from a reader or a file. No clause can say which bytes come; how many there are is at most the room.
 #![tactic(auto)]
 
-ghost use Rattle.std.specs.Prelude.{◌≤◌, ◌<◌, length, IfOk};
+ghost use Rattle.std.specs.Prelude.{◌≤◌, ◌<◌, length, IfOk, Some};
+ghost use Rattle.streams.specs.Text.{unread_text};
 
 mod entries; // entries.rt: files of entries with what is expected of each
 
-pub use entries::{Entries, Tally, each_file};
+pub use entries::{Tally, Told};
 use std::fmt;
 use std::io::Read;
 
@@ -17,6 +18,9 @@ pub enum Unread {
 }
 
 impl fmt::Display for Unread {
+    ghost output = { λ u. Some (unread_text u) };
+
+    #[tactic(auto, unfolding(crate::specs::Text::unread_text))]
     fn fmt<W: fmt::Write>(&self, f: &mut fmt::Formatter<W>) -> fmt::Result {
         match self {
             Unread::NotOpened => write!(f, "not to be opened"),
@@ -55,6 +59,7 @@ pub fn read_full<R: Read>(reader: &mut R, room: &mut [u8]) -> usize
 }
 
 // One read: how many bytes it brought, and 0 where it failed.
+// Stays (no plainer): a read that fails ends the input as one that brings nothing does, and what came before is answered.
 fn read_some<R: Read>(reader: &mut R, room: &mut [u8]) -> usize
     ensures { result ≤ length room.new }
 {

@@ -55,6 +55,7 @@ pub(crate) fn ahead<'a>() -> Call<'a> {
 }
 
 impl Call<'_> {
+    // Stays (no plainer): each of three callers has just these five lists, by name, and lends them once.
     pub(crate) fn made_on(
         self,
         numbers: &mut [usize],
@@ -99,6 +100,7 @@ impl Call<'_> {
     }
 }
 
+// Stays (no plainer): what prints and the name of a trial come side by side to each trial; as one value they would be taken apart to print a line.
 pub(crate) fn tell(rt: &HostRuntime, name: &str, n: usize) {
     let _ = println!(rt; "{name}: {n}");
 }
@@ -106,4 +108,13 @@ pub(crate) fn tell(rt: &HostRuntime, name: &str, n: usize) {
 // The number of its refusal, or 0.
 pub(crate) fn refused(rt: &HostRuntime, name: &str, c: Call<'_>) {
     tell(rt, name, number_given(c.made()));
+}
+
+// A trial for each row of a table: its name, and the call by what stands beside it.
+pub(crate) fn each<'a, T: Copy, F: Fn(T) -> Call<'a>>(rt: &HostRuntime, rows: &[(&str, T)], call: F)
+    requires { F.IsAlwaysCallable call }
+{
+    for (name, x) in rows {
+        refused(rt, name, call(*x));
+    }
 }

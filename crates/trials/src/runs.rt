@@ -1,5 +1,5 @@
 // Both sides of the bounds that a run meets, refusals 12 and 13. A trial tells the number of its refusal, or 0.
-use crate::call::{Call, ahead, refused};
+use crate::call::{Call, ahead, each, refused};
 use rounding::from_bits;
 
 // Three matches, of the spots (0, 0), (0, unit) and (1, y). The first pass turns the camera by about -132,000 / y, and moves it so far that two
@@ -31,23 +31,21 @@ pub(crate) fn turns(rt: &HostRuntime) {
 
 // Two spots, both within the radius of both directions: four pairs, with so many places for their distances and their indices.
 pub(crate) fn candidates(rt: &HostRuntime) {
-    for (name, distances, indices) in &[
-        ("candidate lists for exactly four pairs", 8, 16),
-        ("distances one place short for four pairs", 7, 16),
-        ("indices one place short for four pairs", 8, 15),
-    ] {
-        refused(
-            rt,
-            name,
-            Call {
-                spots: &[1.0, 0.0, 1.0, -1.0, 0.0, 1.0],
-                matches: &[],
-                directions: &[1.0, 0.001, 0.0, 1.0, -0.001, 0.0],
-                limit: 2,
-                distances: *distances,
-                indices: *indices,
-                ..ahead()
-            },
-        );
-    }
+    each(
+        rt,
+        &[
+            ("candidate lists for exactly four pairs", (8, 16)),
+            ("distances one place short for four pairs", (7, 16)),
+            ("indices one place short for four pairs", (8, 15)),
+        ],
+        |(distances, indices)| Call {
+            spots: &[1.0, 0.0, 1.0, -1.0, 0.0, 1.0],
+            matches: &[],
+            directions: &[1.0, 0.001, 0.0, 1.0, -0.001, 0.0],
+            limit: 2,
+            distances,
+            indices,
+            ..ahead()
+        },
+    );
 }

@@ -48,6 +48,14 @@ fn base<'a>() -> Varied<'a> {
     }
 }
 
+// With these starting matches.
+fn starting<'a>(v: Varied<'a>, matches: &'a [usize]) -> Varied<'a> {
+    Varied {
+        given: Call { matches, ..v.given },
+        ..v
+    }
+}
+
 // The answer, and what stands in the last place of the result list.
 #[derive(Drop)]
 struct Ended {
@@ -97,6 +105,7 @@ fn counts(r: WcsRefineResult) -> [usize; 5] {
 }
 
 // Bit for bit.
+// Stays (no plainer): by `==` of the answer's own, floats would be compared as numbers, 0 and -0 alike and a NaN unlike itself.
 fn place(r: WcsRefineResult) -> [u64; 3] {
     let p = r.pose;
     [to_bits(p.theta), to_bits(p.ra), to_bits(p.dec)]
@@ -144,12 +153,8 @@ fn directions(rt: &HostRuntime, v: Varied<'_>) {
         Varied { near: 0.0101, ..v },
     );
     let n = Varied {
-        given: Call {
-            matches: &OF_DIRECTION,
-            ..given()
-        },
         direction4: [0.5, 0.25, 0.0],
-        ..v
+        ..starting(v, &OF_DIRECTION)
     };
     compare(
         rt,
@@ -188,13 +193,7 @@ fn spots(rt: &HostRuntime, v: Varied<'_>) {
             ..w
         },
     );
-    let n = Varied {
-        given: Call {
-            matches: &OF_SPOT,
-            ..given()
-        },
-        ..v
-    };
+    let n = starting(v, &OF_SPOT);
     compare(
         rt,
         "a spot that a starting match names",
@@ -248,13 +247,7 @@ fn weights(rt: &HostRuntime, v: Varied<'_>) {
         v,
         Varied { weight2: 3.0, ..v },
     );
-    let n = Varied {
-        given: Call {
-            matches: &OF_SPOT,
-            ..given()
-        },
-        ..v
-    };
+    let n = starting(v, &OF_SPOT);
     compare(
         rt,
         "the weight of a spot that a starting match names",
@@ -289,13 +282,7 @@ fn nearer(rt: &HostRuntime, v: Varied<'_>, w: Varied<'_>) {
 }
 
 fn others(rt: &HostRuntime, v: Varied<'_>) {
-    let n = Varied {
-        given: Call {
-            matches: &OF_DIRECTION,
-            ..given()
-        },
-        ..v
-    };
+    let n = starting(v, &OF_DIRECTION);
     compare(
         rt,
         "another count of directions",
@@ -325,9 +312,8 @@ fn others(rt: &HostRuntime, v: Varied<'_>) {
         grazing,
         Varied {
             given: Call {
-                matches: &OF_DIRECTION,
                 cut: 0.5,
-                ..given()
+                ..grazing.given
             },
             ..grazing
         },

@@ -1,7 +1,8 @@
 // What functions answer, held against the expected numbers of a line.
 use fit::{Counted, Sums};
-use project::WcsRotation;
+use project::{Plane, Sky, WcsRotation};
 use solve::Solution;
+use stats::MedianSigma;
 use std::cmp::Ordering;
 
 // As numbers of a line: floats stand by their bits.
@@ -86,6 +87,28 @@ impl Answer for Solution {
             Solution::Solved(x, y, z) => Some([x, y, z]).held(e),
             Solution::Failed => None::<f64>.held(e),
         }
+    }
+}
+
+// Stays (no plainer): this and the next three take two fields of their own type each.
+impl Answer for Plane {
+    fn held(self, e: &[usize]) -> Option<&[usize]> {
+        let Plane { xi, eta } = self;
+        (xi, eta).held(e)
+    }
+}
+
+impl Answer for Sky {
+    fn held(self, e: &[usize]) -> Option<&[usize]> {
+        let Sky { ra, dec } = self;
+        (ra, dec).held(e)
+    }
+}
+
+impl Answer for MedianSigma {
+    fn held(self, e: &[usize]) -> Option<&[usize]> {
+        let MedianSigma { median, sigma } = self;
+        (median, sigma).held(e)
     }
 }
 

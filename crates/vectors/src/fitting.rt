@@ -1,12 +1,14 @@
 // The functions of the crate `fit` over lists, by name. The numbers are a pose and the plane cut, then spots, matches and directions, each after its
 // count.
 use crate::answer::Answer;
+use crate::line::Asked;
 use crate::word::{count_at, list};
 use fit::Pose;
 use panel::SPOT_NUMBERS;
 use residuals::NO_RESIDUAL;
 
-pub(crate) fn answer<'e>(name: &str, a: &[usize], e: &'e [usize]) -> Option<&'e [usize]> {
+pub(crate) fn answer(asked: Asked<'_>) -> Option<&[usize]> {
+    let Asked { name, a, e } = asked;
     let [theta, ra, dec, scale, cut]: [f64; 5] = list(a, 0);
     let pose = Pose {
         theta,

@@ -15,28 +15,33 @@ mod sampling; // sampling.rt: the medians and the clip
 mod scalar; // scalar.rt: numbers
 mod word; // word.rt: the numbers of a line as arguments
 
-use line::Lines;
-use streams::each_file;
+use streams::{Told, read_file};
+
+// The files in their order, a few names at a time.
+const FILES: [&str; 8] = [
+    "sqrt64.txt sqrt32.txt narrow.txt widen.txt methods.txt",
+    "sin.txt cos.txt cos32.txt atan.txt asin.txt atan2.txt",
+    "medians.txt matches.txt capacity.txt orderings.txt",
+    "tan_project.txt inverse_tan_project.txt rotations.txt wcs_to_rotation.txt",
+    "vectors.txt solve_3x3.txt covariance.txt",
+    "accumulate.txt fits.txt normal_matrix.txt residuals.txt clips.txt",
+    "grazing.txt grazing_residuals.txt weighted_sums.txt weighted_fits.txt",
+    "axis.txt query.txt",
+];
 
 fn main(rt: HostRuntime) {
-    each_file::<Lines>(
-        &rt,
-        "sqrt64.txt sqrt32.txt narrow.txt widen.txt methods.txt",
-    );
-    each_file::<Lines>(&rt, "sin.txt cos.txt cos32.txt atan.txt asin.txt atan2.txt");
-    each_file::<Lines>(&rt, "medians.txt matches.txt capacity.txt orderings.txt");
-    each_file::<Lines>(
-        &rt,
-        "tan_project.txt inverse_tan_project.txt rotations.txt wcs_to_rotation.txt",
-    );
-    each_file::<Lines>(&rt, "vectors.txt solve_3x3.txt covariance.txt");
-    each_file::<Lines>(
-        &rt,
-        "accumulate.txt fits.txt normal_matrix.txt residuals.txt clips.txt",
-    );
-    each_file::<Lines>(
-        &rt,
-        "grazing.txt grazing_residuals.txt weighted_sums.txt weighted_fits.txt",
-    );
-    each_file::<Lines>(&rt, "axis.txt query.txt");
+    for names in FILES {
+        for name in names.split(' ') {
+            run_file(&rt, name);
+        }
+    }
+}
+
+// The name of a file, and what became of its lines, or why it is not to be had.
+// Stays (form of 01): one function for this and `replay` would be public and ask of its callers that its closure may be called; no public function asks anything.
+fn run_file(rt: &HostRuntime, name: &str) {
+    let _ = print!(rt; "{name}: ");
+    let mut room = [0u8; 65536];
+    let told = read_file(rt, name, &mut room).map(|n| line::tally(rt, &room[..n]));
+    let _ = println!(rt; "{}", Told(told));
 }

@@ -4,6 +4,7 @@
 ghost use Rattle.std.specs.Prelude.{◌≤◌};
 
 use crate::answer::Answer;
+use crate::line::Asked;
 use crate::word::{at, count_at, list};
 use matching::{Matching, greedy_unique_matches, greedy_unique_matches_by_strips};
 use refusal::Refusal;
@@ -20,7 +21,8 @@ struct Question<'a> {
 }
 
 // As an option the answer is 1 and the matches, or 0 where there are too many pairs.
-pub(crate) fn answer<'e>(name: &str, a: &[usize], e: &'e [usize]) -> Option<&'e [usize]> {
+pub(crate) fn answer(asked: Asked<'_>) -> Option<&[usize]> {
+    let Asked { name, a, e } = asked;
     let question = match name {
         "greedy_unique_matches" => Question {
             numbers: a,

@@ -1,8 +1,10 @@
 // The cone query of the crate `query`, by name. The numbers are f32: the boresight, then the radius, and the directions after their count.
 use crate::answer::Answer;
+use crate::line::Asked;
 use crate::word::{at, count_at, list};
 
-pub(crate) fn answer<'e>(name: &str, a: &[usize], e: &'e [usize]) -> Option<&'e [usize]> {
+pub(crate) fn answer(asked: Asked<'_>) -> Option<&[usize]> {
+    let Asked { name, a, e } = asked;
     match name {
         "query" => listed(a, e),
         "normalize_or_fallback" => axis(a).held(e),

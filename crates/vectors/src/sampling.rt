@@ -1,17 +1,18 @@
 // The medians and the clip, by name.
 use crate::answer::Answer;
+use crate::line::Asked;
 use crate::word::{Word, at, count_at, list};
 use residuals::NO_RESIDUAL;
 use stats::MedianSigma;
 
-pub(crate) fn answer<'e>(name: &str, a: &[usize], e: &'e [usize]) -> Option<&'e [usize]> {
-    let MedianSigma { median, sigma } = match name {
-        "median_mad_sigma" => median_mad_sigma(a),
-        "residual_median_sigma" => residual_median_sigma(a),
-        "mad_clip_matches" => return mad_clip_matches(a, e),
-        _ => return None,
-    };
-    [median, sigma].held(e)
+pub(crate) fn answer(asked: Asked<'_>) -> Option<&[usize]> {
+    let Asked { name, a, e } = asked;
+    match name {
+        "median_mad_sigma" => median_mad_sigma(a).held(e),
+        "residual_median_sigma" => residual_median_sigma(a).held(e),
+        "mad_clip_matches" => mad_clip_matches(a, e),
+        _ => None,
+    }
 }
 
 fn median_mad_sigma(a: &[usize]) -> MedianSigma {

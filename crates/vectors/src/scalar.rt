@@ -1,8 +1,10 @@
 // The functions that take numbers and give one number, by name: those of the crates `rounding` and `angles`.
 use crate::answer::Answer;
+use crate::line::Asked;
 use crate::word::{at, list};
 
-pub(crate) fn answer<'e>(name: &str, a: &[usize], e: &'e [usize]) -> Option<&'e [usize]> {
+pub(crate) fn answer(asked: Asked<'_>) -> Option<&[usize]> {
+    let Asked { name, a, e } = asked;
     let single: f32 = at(a, 0);
     let [x, y, z]: [f64; 3] = list(a, 0);
     match name {

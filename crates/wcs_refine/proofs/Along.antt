@@ -1,5 +1,7 @@
--- A property along a list, and of what a test leaves. Assumes nothing.
-use Rattle.std.proofs.Common.{Bool, true, false, cond, List, [], ◌∷◌, ◌++◌}
+-- A property along a list, of what a test leaves, and of what a `?` hands on. Assumes nothing.
+use Rattle.std.specs.Prelude.{Result, Err, IsErrAnd}
+use Rattle.std.proofs.lemmas.Result.{err_from_is_err_and}
+use Rattle.std.proofs.Common.{◌≡◌, Bool, true, false, cond, List, [], ◌∷◌, ◌++◌}
 
 module _ {A : Type 0} (P : A → Type 0) where
   abbrev pub All : List A → Type 0
@@ -18,3 +20,7 @@ module _ {A : Type 0} (P : A → Type 0) where
 pub either {ℓ} : {A : Type ℓ} (P : A → Type 0) (b : Bool) (x y : A) → P x → P y → P (cond b x y)
 either P true x y p q = p
 either P false x y p q = q
+
+-- What a `?` hands on is what it met.
+pub hands_on : {A E : Type 0} (P : Result A E → Type 0) {x : E} (r : Result A E) → IsErrAnd r (λ y. y ≡ x) → P (Err x) → P r
+hands_on P r e p = let q = err_from_is_err_and r e in rw (q.1, q.2) p

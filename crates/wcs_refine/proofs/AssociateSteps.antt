@@ -16,13 +16,15 @@ use Rattle.query.specs.Query.{Cache, Prediction}
 use Rattle.wcs_refine.specs.Associate.{laid, renamed, same_matches}
 use Rattle.wcs_refine.specs.Listing.{renamed_by}
 use Rattle.wcs_refine.specs.Round.{State, Next, go, done, refuse, settled, associated, compared}
-use Rattle.wcs_refine.specs.Keeping.{cache_of, held_cache, held_matches, held_state, with_used, next_of, Fits, Predicted, AssociatedTo}
+use Rattle.wcs_refine.specs.Keeping.{cache_of, held_cache, held_matches, held_state, next_of, Fits, Predicted, StepAs, AssociatedTo}
 use Rattle.wcs_refine.specs.Comparing.{Kept, Comparable, Compared, NewAt, Tallied, FoundTo}
 use Rattle.wcs_refine.specs.declared.associating.Tally.{Tally}
 use Rattle.query.specs.declared.Held.{Held}
-use Rattle.wcs_refine.specs.declared.keeping.Verdict.TheVariants.{GoOn, Done, Refused}
-use Rattle.std.specs.Prelude.{Option, Some, None, is_none, IfSome}
+use Rattle.std.specs.Prelude.{Result, Ok, Err, is_err, IfOk}
+use Rattle.std.proofs.lemmas.Result.{IfErr-at_err}
+use Rattle.refusal.specs.declared.Refusal.{Refusal}
 use Rattle.refusal.specs.declared.Refusal.TheVariants.{ManyPairs}
+use Rattle.refusal.specs.Number.{number_of}
 use Rattle.wcs_refine.proofs.Meant.{renamed_is}
 use Rattle.wcs_refine.proofs.NewMatches.{lone_matches, renamed_many}
 use Rattle.wcs_refine.proofs.FindSteps.{slice_front}
@@ -98,7 +100,17 @@ module _ (p : Pose) (ms : List ℕ) (c : Cache) (new : List ℕ) where
 
 -- ---- the answers
 
-module _ (k : Settings) (n q : ℕ) (spots floats d : List Float) (ix before : List ℕ) (h : Held) (r : Float) (after : List ℕ) (f : Option Tally)
+abbrev with_used : Held → ℕ → Held
+with_used h n = record {
+  pose = h.pose;
+  used = n;
+  filled = h.filled;
+  boresight = h.boresight;
+  theta = h.theta;
+  cached = h.cached;
+}
+
+module _ (k : Settings) (n q : ℕ) (spots floats d : List Float) (ix before : List ℕ) (h : Held) (r : Float) (after : List ℕ) (f : Result Tally Refusal)
     (lent : k.capacity ≡ capacity d ix) (room : length spots / 2 + q ≤ n) (many : 16 * n ≤ length before) (fits : Fits k n h) (few : k.count ≤ n)
     (w : FoundTo n q spots k.limit r floats d ix before after f) where
   abbrev points : List Float
@@ -113,7 +125,7 @@ module _ (k : Settings) (n q : ℕ) (spots floats d : List Float) (ix before : L
   abbrev wanted : List Prediction → Next
   wanted qs = associated (fixed_of k) spots h.pose (held_matches h before) (held_cache n h before) r qs
 
-  over_is : (qs : List Prediction) → Predicted n q before floats qs → ltb k.capacity (length (pairs spots k.limit (laid qs) (r ⊗ r))) ≡ is_none f
+  over_is : (qs : List Prediction) → Predicted n q before floats qs → ltb k.capacity (length (pairs spots k.limit (laid qs) (r ⊗ r))) ≡ is_err f
   over_is qs p =
       ap (λ (m : ℕ). ltb m (length (pairs spots k.limit (laid qs) (r ⊗ r)))) lent
       ∙ ap (λ (l : List Float). ltb (capacity d ix) (length (pairs spots k.limit l (r ⊗ r)))) p.points ∙ sym w.full
@@ -123,7 +135,7 @@ module _ (k : Settings) (n q : ℕ) (spots floats d : List Float) (ix before : L
       ap (λ (l : List Float). renamed qs (matches_of spots k.limit l (r ⊗ r))) p.points ∙ sym (renamed_is qs found)
       ∙ ap (λ (l : List ℕ). renamed_by l (flat found)) p.ids
 
-  wanted_is : (qs : List Prediction) → Predicted n q before floats qs → (b : Bool) → is_none f ≡ b
+  wanted_is : (qs : List Prediction) → Predicted n q before floats qs → (b : Bool) → is_err f ≡ b
       → cond b (refuse 13) (settled h.pose (held_matches h before) (held_cache n h before) new) ≡ wanted qs
   unfolding associated
   wanted_is qs p b e =
@@ -132,21 +144,17 @@ module _ (k : Settings) (n q : ℕ) (spots floats d : List Float) (ix before : L
       (over_is qs p ∙ e)
       ∙ ap (λ (l : List ℕ). cond b (refuse 13) (settled h.pose (held_matches h before) (held_cache n h before) l)) (new_is qs p))
 
-  pub refused : {last : List ℕ} → f ≡ None
-      → AssociatedTo k n spots h r q before floats last (record { held = h; verdict = Refused ManyPairs; comparisons = 0 })
-  unfolding next_of compared
-  refused e = record {
-    next = λ qs p. wanted_is qs p true (ap is_none e);
-    comparisons = λ qs p. ap (λ (b : Bool). cond b 0 (comparisons not_after (pairs spots k.limit (laid qs) (r ⊗ r)))) (sym (over_is qs p ∙ ap is_none e));
-    fits = fits;
-  }
+  pub refused : (left : State) {x : Refusal} → f ≡ Err x → AssociatedTo k n spots h r q before floats left (Err x)
+  refused left {x} e =
+      let is : x ≡ ManyPairs = IfErr-at_err (λ (y : Refusal). y ≡ ManyPairs) e w.refusal in
+      λ qs p. ap (λ (y : Refusal). refuse (number_of y)) is ∙ wanted_is qs p true (ap is_err e)
 
-  module _ (t : Tally) (some : f ≡ Some t) where
-    e : is_none f ≡ false
-    e = ap is_none some
+  module _ (t : Tally) (some : f ≡ Ok t) where
+    e : is_err f ≡ false
+    e = ap is_err some
 
     told : Tallied n q spots k.limit r floats before after t
-    told = subst (λ (x : Option Tally). IfSome x (Tallied n q spots k.limit r floats before after)) some w.found
+    told = subst (λ (x : Result Tally Refusal). IfOk x (Tallied n q spots k.limit r floats before after)) some w.found
 
     abbrev at : NewAt n t.within t.count new before after
     at = told.there
@@ -162,20 +170,19 @@ module _ (k : Settings) (n q : ℕ) (spots floats d : List Float) (ix before : L
     new_many = omega (arith, renamed_many (slice (3 * n) (3 * n + q) before) found, told.count)
 
     -- the state as it came
-    stayed : {last : List ℕ} → take (4 * n) last ≡ take (4 * n) before
+    stayed : (last : List ℕ) → take (4 * n) last ≡ take (4 * n) before
         → done (held_state n h before) ≡ settled h.pose (held_matches h before) (held_cache n h before) new
-        → AssociatedTo k n spots h r q before floats last (record { held = h; verdict = Done; comparisons = t.comparisons })
+        → StepAs k n spots h r q before floats (held_state n h last) (record { converged = true; comparisons = t.comparisons })
     unfolding next_of
-    stayed {last} same x = record {
+    stayed last same x = record {
       next = λ qs p.
           ap (λ (s : State). done s) (state_of (matches_same n h last before fits.used same) (cache_same n h last before (omega (arith, fits.cached)) same))
           ∙ x ∙ wanted_is qs p false e;
       comparisons = compared_is;
-      fits = fits;
     }
 
-    pub too_few : t.count < 4 → AssociatedTo k n spots h r q before floats after (record { held = h; verdict = Done; comparisons = t.comparisons })
-    too_few x = stayed at.front (settled_few h.pose (held_matches h before) (held_cache n h before) new (omega (arith, new_many)))
+    pub too_few : t.count < 4 → StepAs k n spots h r q before floats (held_state n h after) (record { converged = true; comparisons = t.comparisons })
+    too_few x = stayed after at.front (settled_few h.pose (held_matches h before) (held_cache n h before) new (omega (arith, new_many)))
 
     pub can_compare : Comparable (4 * n) t.within (8 * n) t.count h.used after
     can_compare = record {
@@ -197,19 +204,18 @@ module _ (k : Settings) (n q : ℕ) (spots floats d : List Float) (ix before : L
       front : take (4 * n) m ≡ take (4 * n) before
       front = x.kept.front ∙ at.front
 
-      pub not_new : b ≡ true → AssociatedTo k n spots h r q before floats m (record { held = h; verdict = Done; comparisons = t.comparisons })
-      not_new y = stayed front (settled_same h.pose (held_matches h before) (held_cache n h before) new (sym answer ∙ y))
+      pub not_new : b ≡ true → StepAs k n spots h r q before floats (held_state n h m) (record { converged = true; comparisons = t.comparisons })
+      not_new y = stayed m front (settled_same h.pose (held_matches h before) (held_cache n h before) new (sym answer ∙ y))
 
       there : slice (8 * n) (8 * n + 2 * t.count) m ≡ new
       there =
           slice_kept (4 * n) t.within (8 * n) (8 * n + 2 * t.count) m after x.kept (omega (arith, told.within, room)) (omega (arith, at.room, at.long, many))
           ∙ at.list
 
-      pub taken : {last : List ℕ} {next : Held} → b ≡ false → 4 ≤ t.count → last ≡ slice (8 * n) (8 * n + 2 * t.count) m ++ drop (2 * t.count) m
-          → next ≡ with_used h t.count
-          → AssociatedTo k n spots h r q before floats last (record { held = next; verdict = GoOn; comparisons = t.comparisons })
+      pub taken : {last : List ℕ} → b ≡ false → 4 ≤ t.count → last ≡ slice (8 * n) (8 * n + 2 * t.count) m ++ drop (2 * t.count) m
+          → StepAs k n spots h r q before floats (held_state n (with_used h t.count) last) (record { converged = false; comparisons = t.comparisons })
       unfolding next_of
-      taken {last} {next} y z brought is =
+      taken {last} y z brought =
           let now : last ≡ new ++ drop (2 * t.count) m = brought ∙ ap (λ (l : List ℕ). l ++ drop (2 * t.count) m) there in
           let ms : take (2 * t.count) last ≡ new = ap (take (2 * t.count)) now ∙ take_at new (drop (2 * t.count) m) (2 * t.count) new_many in
           let part : slice (2 * n) (2 * n + h.cached) last ≡ slice (2 * n) (2 * n + h.cached) before =
@@ -217,11 +223,12 @@ module _ (k : Settings) (n q : ℕ) (spots floats d : List Float) (ix before : L
           ∙ slice_behind (2 * n) (2 * n + h.cached) new m (2 * t.count) new_many (omega (arith, at.room)) (omega arith)
           (omega (arith, fits.cached, at.long, many, x.kept.long))
           ∙ slice_front (2 * n) (2 * n + h.cached) (4 * n) m before (omega (arith, fits.cached)) front in
-          subst (λ (s : Held). AssociatedTo k n spots h r q before floats last (record { held = s; verdict = GoOn; comparisons = t.comparisons })) (sym is)
-          (record {
+          record {
             next = λ qs p.
                 ap (λ (s : State). go s) (state_of ms (ap (cache_of h.filled h.boresight h.theta) part))
                 ∙ settled_new h.pose (held_matches h before) (held_cache n h before) new (omega (arith, new_many)) (sym answer ∙ y) ∙ wanted_is qs p false e;
             comparisons = compared_is;
-            fits = record { used = at.room; cached = fits.cached };
-          })
+          }
+
+      pub few_taken : t.count ≤ n
+      few_taken = at.room

@@ -1,34 +1,34 @@
 -- From the run's start to what the call hands back: the start, the closing, the answer, and the lists. Assumes nothing.
-use Rattle.std.specs.Prelude.{Option, Some, None, IfSome, Result, Ok, Err, IsErrAnd}
+use Rattle.std.specs.Prelude.{Result, Ok, Err, IsErrAnd}
 use Rattle.refusal.specs.declared.Refusal.{Refusal}
 use Rattle.refusal.specs.Number.{number_of}
-use Rattle.std.proofs.Common.{◌≡◌, ℕ, zero, suc, ◌+◌, ◌*◌, ◌/◌, ◌%◌, ◌≤◌, min, false, List, length, take, drop, replicate, sym, refl, ap, ◌∙◌, subst, arith, length-take-le, take_at}
+use Rattle.std.proofs.Common.{◌≡◌, ℕ, zero, suc, ◌+◌, ◌*◌, ◌/◌, ◌%◌, ◌≤◌, false, List, length, take, drop, replicate, sym, refl, ap, ◌∙◌, subst, arith, length-take-le, take_at}
 use lib.Ieee.{Float}
 use Rattle.rounding.specs.Arith.{zero64}
 use Rattle.fit.specs.Rows.{rows}
 use Rattle.fit.specs.declared.Pose.{Pose}
 use Rattle.pairs.specs.Candidates.{capacity}
-use Rattle.entry.specs.Arguments.{Call, Given, Lent, spot_count, match_count, direction_count, total, result_places}
+use Rattle.entry.specs.Arguments.{Call, Given, Lent, spot_count, match_count, direction_count, total}
 use Rattle.entry.specs.Check.{refusal}
 use Rattle.entry.specs.Fixed.{Fixed, fixed}
 use Rattle.entry.specs.Entry.{fixed_of}
 use Rattle.entry.specs.declared.Settings.{Settings}
 use Rattle.query.specs.Query.{Cache, empty}
 use Rattle.lists.specs.Fronted.{fronted}
-use Rattle.wcs_refine.specs.Round.{State, Ending, Run, loop}
+use Rattle.wcs_refine.specs.Round.{State, Ending, refused, ended, Run, loop}
 use Rattle.wcs_refine.specs.Closing.{Closed, unsound, fine, cleaned, Report, reported}
 use Rattle.wcs_refine.specs.Cleaning.{closed_of, CleanedTo, report_of}
-use Rattle.wcs_refine.specs.Keeping.{cache_of, held_state, Ready, Fits, ending_of, RanTo}
+use Rattle.wcs_refine.specs.Keeping.{cache_of, counts_of, RanTo}
 use Rattle.wcs_refine.specs.Call.{Answer, no, ok, start, run_of, closed, finished, answer_after, answer, cleared, left, outcome}
 use Rattle.wcs_refine.specs.Returned.{Values, refused_with, accepted, values_of, handed, Returned, returned, lists, Answers}
-use Rattle.wcs_refine.specs.Ending.{concluded, result_after, Answered}
+use Rattle.wcs_refine.specs.Ending.{concluded, ending_at, closing_of, answer_of, result_after, Answered}
+use Rattle.wcs_refine.specs.Stepping.{loop_of}
+use Rattle.panel.specs.Points.{within_limit}
 use Rattle.wcs_refine.specs.declared.WcsRefineResult.{WcsRefineResult}
 use Rattle.wcs_refine.specs.declared.cleaning.Cleaned.{Cleaned}
 use Rattle.wcs_refine.specs.declared.reporting.Numbers.{Numbers}
-use Rattle.query.specs.declared.Held.{Held}
-use Rattle.wcs_refine.specs.declared.rounds.Ran.{Ran}
+use Rattle.wcs_refine.specs.declared.rounds.Counts.{Counts}
 use Rattle.wcs_refine.specs.declared.course.Course.{Course}
-use Rattle.wcs_refine.specs.declared.working.Working.{Working}
 use Rattle.wcs_refine.proofs.LoopEnds.{Ends, loop_ends}
 use Rattle.wcs_refine.proofs.CallBounds.{passed}
 
@@ -47,56 +47,52 @@ begin_state ms l after p q e even f b t x =
 
 -- ---- the closing
 
-module _ (k : Settings) (ss ds : List Float) (p : Pose) (used : ℕ) (before after l : List ℕ) (r : Option Cleaned) (rounds passes queries comparisons : ℕ)
-    (d : CleanedTo k.cut ss ds p used before after r) where
-  abbrev Closes : List ℕ → Result WcsRefineResult Refusal → Type 0
-  Closes out v = Answered (concluded (fixed_of k) ss ds (cleaned (fixed_of k) ss ds 3 p (take (2 * used) before)) rounds passes queries comparisons) l out v
+module _ (k : Settings) (ss ds : List Float) (p : Pose) (used : ℕ) (before after l : List ℕ) (n : Counts) where
+  abbrev pub Closes : List ℕ → Result WcsRefineResult Refusal → Type 0
+  Closes out v = Answered (concluded (fixed_of k) ss ds (cleaned (fixed_of k) ss ds 3 p (take (2 * used) before)) n) l out v
 
-  closes : {x : Closed} → closed_of r after ≡ x → {out : List ℕ} {v : Result WcsRefineResult Refusal}
-      → Answered (concluded (fixed_of k) ss ds x rounds passes queries comparisons) l out v → Closes out v
-  closes e {out} {v} a =
-      subst (λ (y : Closed). Answered (concluded (fixed_of k) ss ds y rounds passes queries comparisons) l out v) (sym e ∙ d.closed (fixed_of k) refl) a
+  closes : (r : Result Cleaned Refusal) → CleanedTo k.cut ss ds p used before after r → {out : List ℕ} {v : Result WcsRefineResult Refusal}
+      → Answered (concluded (fixed_of k) ss ds (closed_of r after) n) l out v → Closes out v
+  closes r d {out} {v} a =
+      subst (λ (y : Closed). Answered (concluded (fixed_of k) ss ds y n) l out v) (d.closed (fixed_of k) refl) a
 
-  pub closes_unsound : r ≡ None → {v : Result WcsRefineResult Refusal} → handed v ≡ refused_with 12 → Closes l v
-  unfolding concluded values_of result_after
-  closes_unsound f e = closes {x = unsound} (ap (λ (y : Option Cleaned). closed_of y after) f) (record { values = e; list = refl })
+  pub closes_unsound : (x : Refusal) → CleanedTo k.cut ss ds p used before after (Err x) → Closes l (Err x)
+  unfolding concluded values_of result_after handed
+  closes_unsound x d = closes (Err x) d (record { values = ap (λ (y : Refusal). refused_with (number_of y)) d.refusal; list = refl })
 
   -- of the first j numbers, which are the matches that are left, the report and the front of the result list
-  module _ (q : Cleaned) (some : r ≡ Some q) (j : ℕ) (x : Numbers) {out : List ℕ} (is : j ≡ 2 * q.used) (long : length after ≡ length before)
+  module _ (q : Cleaned) (d : CleanedTo k.cut ss ds p used before after (Ok q)) (j : ℕ) (x : Numbers) {out : List ℕ} (is : j ≡ 2 * q.used) (long : length after ≡ length before)
       (fits : 2 * used ≤ length before)
       (w : report_of x q.pose (take j after) ≡ reported (fixed_of k) q.pose (take j after) (rows ss ds (take j after)))
       (o : out ≡ fronted (take j after) l) where
-    fewer : q.used ≤ used
-    fewer = subst (λ (y : Option Cleaned). IfSome y (λ c. c.used ≤ used)) some d.fewer
-
     front_count : length (take j after) / 2 ≡ q.used
     front_count =
-        let room : j ≤ length after = omega (arith, is, long, fits, fewer) in
+        let room : j ≤ length after = omega (arith, is, long, fits, d.fewer) in
         omega (arith, length-take-le j after room, is)
 
     abbrev answered : WcsRefineResult
     answered = record {
       matches = q.used;
-      rounds = rounds;
-      passes = passes;
-      queries = queries;
-      comparisons = comparisons;
+      rounds = n.rounds;
+      passes = n.passes;
+      queries = n.queries;
+      comparisons = n.comparisons;
       pose = q.pose;
       cd = x.cd;
       rmse_rad = x.rms;
       cov = x.cov;
     }
 
-    handed_is : handed (Ok answered) ≡ accepted (report_of x q.pose (take j after)) rounds passes queries comparisons
+    handed_is : handed (Ok answered) ≡ accepted (report_of x q.pose (take j after)) n.rounds n.passes n.queries n.comparisons
     unfolding handed accepted
     handed_is =
-        ap (λ (n : ℕ). record {
+        ap (λ (m : ℕ). record {
           refusal = 0;
-          matches = n;
-          rounds = rounds;
-          passes = passes;
-          queries = queries;
-          comparisons = comparisons;
+          matches = m;
+          rounds = n.rounds;
+          passes = n.passes;
+          queries = n.queries;
+          comparisons = n.comparisons;
           pose = q.pose;
           cd = x.cd;
           rmse_rad = x.rms;
@@ -107,10 +103,11 @@ module _ (k : Settings) (ss ds : List Float) (p : Pose) (used : ℕ) (before aft
     unfolding concluded values_of result_after
     closes_fine =
         let ms = take j after in
-        let whole : closed_of r after ≡ fine q.pose ms =
-        ap (λ (y : Option Cleaned). closed_of y after) some ∙ ap (λ (n : ℕ). fine q.pose (take n after)) (sym is) in
-        let it : Answered (ok (report_of x q.pose ms) rounds passes queries comparisons) l out (Ok answered) = record { values = handed_is; list = o } in
-        closes {x = fine q.pose ms} whole (subst (λ (y : Report). Answered (ok y rounds passes queries comparisons) l out (Ok answered)) w it)
+        let whole : fine q.pose ms ≡ fine q.pose (take (2 * q.used) after) = ap (λ (m : ℕ). fine q.pose (take m after)) is in
+        let it : Answered (ok (report_of x q.pose ms) n.rounds n.passes n.queries n.comparisons) l out (Ok answered) = record { values = handed_is; list = o } in
+        closes (Ok q) d
+        (subst (λ (y : Closed). Answered (concluded (fixed_of k) ss ds y n) l out (Ok answered)) whole
+        (subst (λ (y : Report). Answered (ok y n.rounds n.passes n.queries n.comparisons) l out (Ok answered)) w it))
 
 -- ---- what the start and the run are lent
 
@@ -132,19 +129,46 @@ module _ (c : Call) (k : Settings) (same : fixed_of k ≡ fixed c) where
   pub room_fits : spot_count c + k.count ≤ total c
   room_fits = omega (arith, count_fits)
 
-pub run_fits : (c : Call) → refusal c ≡ 0 → (s : Course) → fixed_of s.k ≡ fixed c → s.room ≡ total c → (h : Held) → h.used ≡ match_count c → h.cached ≡ 0
-    → (w : Working) → length w.numbers.now ≡ length c.given.lent.numbers
-    → length w.floats.now ≡ length c.given.lent.floats → length w.distances.now ≡ length c.given.lent.distances
-    → length w.indices.now ≡ length c.given.lent.indices → Ready s w × Fits s.k s.room h × (c.given.rounds ≤ 64)
-run_fits c lawful s same e h used cached w long floats distances indices =
+-- the lists of a call have room for its course, and for the state that its run starts from
+pub run_fits : (c : Call) → refusal c ≡ 0 → (k : Settings) → fixed_of k ≡ fixed c → (used : ℕ) → used ≡ match_count c
+    → (numbers : List ℕ) → length numbers ≡ length c.given.lent.numbers
+    → (16 * total c ≤ length numbers) × (16 * total c ≤ length c.given.lent.floats)
+    × (k.capacity ≡ capacity c.given.lent.distances c.given.lent.indices) × (used ≤ total c) × (0 ≤ k.count)
+run_fits c lawful k same used e numbers long =
     let b = passed c lawful in (
-      record {
-        roomy = record { many = omega (arith, e, b.numbers, long); far = omega (arith, e, b.floats, floats) };
-        capacity = omega (arith, ap (λ (x : Fixed). x.capacity) same, capacity_is c, distances, indices);
-      },
-      record { used = omega (arith, e, used); cached = omega (arith, cached) },
-      b.rounds,
+      omega (arith, b.numbers, long),
+      omega (arith, b.floats),
+      ap (λ (x : Fixed). x.capacity) same ∙ capacity_is c,
+      omega (arith, e),
+      omega arith,
     )
+
+-- ---- the answer of a run
+
+module _ (c : Course) (most : ℕ) (s left : State) where
+  abbrev made : Run
+  made = loop_of c most s
+
+  abbrev ends_in : Ending → Counts → Answer
+  ends_in e n = ending_at (fixed_of c.k) c.spots.now c.directions.now e n
+
+  pub run_refused : (x : Refusal) → RanTo left made (Err x) → (l : List ℕ) → Answered (answer_of c most s) l l (Err x)
+  unfolding values_of result_after handed
+  run_refused x ran l =
+      let it : Answered (no (number_of x)) l l (Err x) = record { values = refl; list = refl } in
+      subst (λ (y : Ending). Answered (ends_in y (counts_of made)) l l (Err x)) ran it
+
+  module _ (n : Counts) (ran : RanTo left made (Ok n)) where
+    pub run_ended : {l out : List ℕ} {v : Result WcsRefineResult Refusal} → Answered (closing_of c left n) l out v → Answered (answer_of c most s) l out v
+    run_ended {l} {out} {v} a =
+        subst (λ (y : Ending). Answered (ends_in y (counts_of made)) l out v) ran.ending
+        (subst (λ (m : Counts). Answered (ends_in (ended left) m) l out v) ran.counts a)
+
+    -- no more matches are left than there were, or than spots within the limit
+    pub run_leaves : (m : ℕ) → 2 * within_limit c.spots.now c.k.limit ≤ m → length s.matches ≤ m → length left.matches ≤ m
+    run_leaves m room few =
+        subst (Ends (fixed_of c.k) c.spots.now c.directions.now m room) (sym ran.ending)
+        (loop_ends (fixed_of c.k) c.spots.now c.directions.now m room most s few)
 
 -- ---- the answer of a call that passes the checks
 
@@ -160,89 +184,39 @@ run_is : (c : Call) → loop (fixed c) c.spots c.directions c.given.rounds (star
 unfolding run_of
 run_is c = refl
 
-closed_is : (c : Call) (x : Closed) (u : Run) → concluded (fixed c) c.spots c.directions x u.rounds u.passes (length u.queries) u.comparisons ≡ closed c x u
+closed_is : (c : Call) (x : Closed) (u : Run) → concluded (fixed c) c.spots c.directions x (counts_of u) ≡ closed c x u
 unfolding closed concluded
 closed_is c unsound u = refl
 closed_is c (fine p ms) u = refl
 
-finished_refused : (c : Call) (x : Refusal) (s : State) (u : Run) → no (number_of x) ≡ finished c (ending_of (Some x) s) u
-unfolding ending_of finished
-finished_refused c x s u = refl
+finished_is : (c : Call) (e : Ending) (u : Run) → ending_at (fixed c) c.spots c.directions e (counts_of u) ≡ finished c e u
+unfolding finished
+finished_is c (refused x) u = refl
+finished_is c (ended s) u = closed_is c (cleaned (fixed c) c.spots c.directions 3 s.pose s.matches) u
 
-finished_ended : (c : Call) (s : State) (u : Run)
-    → concluded (fixed c) c.spots c.directions (cleaned (fixed c) c.spots c.directions 3 s.pose s.matches) u.rounds u.passes (length u.queries) u.comparisons
-    ≡ finished c (ending_of None s) u
-unfolding ending_of finished
-finished_ended c s u = closed_is c (cleaned (fixed c) c.spots c.directions 3 s.pose s.matches) u
+-- the result list has room for the matches that a run starts from, and for one of each spot within the limit
+pub result_fits : (c : Call) → refusal c ≡ 0 → (k : Settings) → fixed_of k ≡ fixed c → (used : ℕ) → used ≡ match_count c
+    → (c.given.rounds ≤ 64) × (2 * used ≤ length c.given.lent.result) × (2 * within_limit c.spots k.limit ≤ length c.given.lent.result)
+result_fits c lawful k same used e =
+    let b = passed c lawful in (
+      b.rounds,
+      omega (arith, e, b.result),
+      omega (arith, ap (λ (x : Fixed). x.limit) same, limit_is c, b.result),
+    )
 
 module _ (c : Call) (lawful : refusal c ≡ 0) where
-  answer_is : finished c (run_of c).ending (run_of c) ≡ answer c
+  abbrev by : Run → Answer
+  by u = ending_at (fixed c) c.spots c.directions u.ending (counts_of u)
+
+  pub answer_is : (d : Course) (s : State) → fixed_of d.k ≡ fixed c → d.spots.now ≡ c.spots → d.directions.now ≡ c.directions → s ≡ start c.given
+      → answer_of d c.given.rounds s ≡ answer c
   unfolding answer
-  answer_is = ap (answer_after c) (sym lawful)
-
-  room : 2 * min (spot_count c) (fixed c).limit ≤ result_places c
-  room = omega (arith, limit_is c)
-
-  run_ends : Ends (fixed c) c.spots c.directions (result_places c) room (run_of c).ending
-  run_ends =
-      let few : length (start c.given).matches ≤ result_places c = omega (arith, ap length (starts_with c.given), (passed c lawful).even) in
-      subst (λ (u : Run). Ends (fixed c) c.spots c.directions (result_places c) room u.ending) (run_is c)
-      (loop_ends (fixed c) c.spots c.directions (result_places c) room c.given.rounds (start c.given) few)
-
-  few_ended : (s : State) → Ends (fixed c) c.spots c.directions (result_places c) room (ending_of None s) → length s.matches ≤ result_places c
-  unfolding ending_of
-  few_ended s e = e
-
-  -- what the code's run ends in
-  module _ (k : Settings) (n : ℕ) (h : Held) (before after : List ℕ) (r : Ran) (same : fixed_of k ≡ fixed c) (begun : held_state n h before ≡ start c.given)
-      (ran : RanTo k n c.spots c.directions c.given.rounds h before after r) where
-    run_same : loop (fixed_of k) c.spots c.directions c.given.rounds (held_state n h before) ≡ run_of c
-    run_same =
-        ap (λ (x : Fixed). loop x c.spots c.directions c.given.rounds (held_state n h before)) same
-        ∙ ap (λ (s : State). loop (fixed c) c.spots c.directions c.given.rounds s) begun ∙ run_is c
-
-    last : ending_of r.refusal (held_state n r.held after) ≡ (run_of c).ending
-    last = ran.ending ∙ ap (λ (u : Run). u.ending) run_same
-
-    pub refused_answer : {x : Refusal} → r.refusal ≡ Some x → (l : List ℕ) → Answered (answer c) l l (Err x)
-    unfolding values_of result_after handed
-    refused_answer {x} f l =
-        let it : Answered (no (number_of x)) l l (Err x) = record { values = refl; list = refl } in
-        subst (λ (y : Answer). Answered y l l (Err x))
-        (finished_refused c x (held_state n r.held after) (run_of c)
-        ∙ ap (λ (y : Option Refusal). finished c (ending_of y (held_state n r.held after)) (run_of c)) (sym f)
-        ∙ ap (λ (y : Ending). finished c y (run_of c)) last ∙ answer_is) it
-
-    abbrev concludes : Fixed → ℕ → ℕ → ℕ → ℕ → Answer
-    concludes y rounds passes queries comparisons =
-        concluded y c.spots c.directions (cleaned y c.spots c.directions 3 r.held.pose (take (2 * r.held.used) after)) rounds passes queries comparisons
-
-    pub ended_answer : r.refusal ≡ None → {l out : List ℕ} {v : Result WcsRefineResult Refusal}
-        → Answered (concludes (fixed_of k) r.rounds r.passes r.queries r.comparisons) l out v → Answered (answer c) l out v
-    ended_answer f {l} {out} {v} a =
-        let u = run_of c in
-        let rounds : r.rounds ≡ u.rounds = ran.rounds ∙ ap (λ (y : Run). y.rounds) run_same in
-        let passes : r.passes ≡ u.passes = ran.passes ∙ ap (λ (y : Run). y.passes) run_same in
-        let queries : r.queries ≡ length u.queries = ran.count ∙ ap (λ (y : Run). length y.queries) run_same in
-        let comparisons : r.comparisons ≡ u.comparisons = ran.comparisons ∙ ap (λ (y : Run). y.comparisons) run_same in
-        subst (λ (y : Answer). Answered y l out v)
-        (ap (λ (y : Fixed). concludes y r.rounds r.passes r.queries r.comparisons) same
-        ∙ ap (λ (y : ℕ). concludes (fixed c) y r.passes r.queries r.comparisons) rounds
-        ∙ ap (λ (y : ℕ). concludes (fixed c) u.rounds y r.queries r.comparisons) passes
-        ∙ ap (λ (y : ℕ). concludes (fixed c) u.rounds u.passes y r.comparisons) queries
-        ∙ ap (λ (y : ℕ). concludes (fixed c) u.rounds u.passes (length u.queries) y) comparisons
-        ∙ finished_ended c (held_state n r.held after) u ∙ ap (λ (y : Option Refusal). finished c (ending_of y (held_state n r.held after)) u) (sym f)
-        ∙ ap (λ (y : Ending). finished c y u) last ∙ answer_is)
-        a
-
-    -- every list has room for the matches that are left
-    pub ended_fits : r.refusal ≡ None → n ≡ total c → length after ≡ length c.given.lent.numbers → (floats : List Float) → length floats ≡ length c.given.lent.floats
-        → (2 * r.held.used ≤ length after) × (2 * r.held.used ≤ length floats) × (2 * r.held.used ≤ length c.given.lent.result)
-    ended_fits f w long floats wide =
-        let front : 2 * r.held.used ≤ length after = omega (arith, ran.fits.used, (passed c lawful).numbers) in
-        let few = few_ended (held_state n r.held after)
-        (subst (Ends (fixed c) c.spots c.directions (result_places c) room) (sym (ap (λ (y : Option Refusal). ending_of y (held_state n r.held after)) (sym f) ∙ last)) run_ends) in
-        (front, omega (arith, ran.fits.used, (passed c lawful).floats), omega (arith, few, length-take-le (2 * r.held.used) after front, (passed c lawful).result))
+  answer_is d s same ss ds begun =
+      ap (λ (x : Fixed). (let u = loop x d.spots.now d.directions.now c.given.rounds s in ending_at x d.spots.now d.directions.now u.ending (counts_of u))) same
+      ∙ ap (λ (x : List Float). (let u = loop (fixed c) x d.directions.now c.given.rounds s in ending_at (fixed c) x d.directions.now u.ending (counts_of u))) ss
+      ∙ ap (λ (x : List Float). (let u = loop (fixed c) c.spots x c.given.rounds s in ending_at (fixed c) c.spots x u.ending (counts_of u))) ds
+      ∙ ap (λ (x : State). by (loop (fixed c) c.spots c.directions c.given.rounds x)) begun
+      ∙ ap by (run_is c) ∙ finished_is c (run_of c).ending (run_of c) ∙ ap (answer_after c) (sym lawful)
 
 -- ---- the lists
 

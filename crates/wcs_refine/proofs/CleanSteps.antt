@@ -1,6 +1,7 @@
 -- The closing clips one by one: the residuals at the front of their list, the clip, the refit, and what is left. Assumes nothing.
 use Rattle.stats.specs.declared.MedianSigma.{MedianSigma}
-use Rattle.std.specs.Prelude.{Option, Some, None}
+use Rattle.std.specs.Prelude.{Option, Some, None, Result, Ok, Err}
+use Rattle.refusal.specs.declared.Refusal.{Refusal}
 use Rattle.std.proofs.Common.{◌≡◌, ℕ, suc, ◌+◌, ◌-◌, ◌*◌, ◌/◌, ◌<◌, ◌≤◌, Bool, true, false, cond, ltb, List, [], ◌∷◌, ◌++◌, length, take, drop, sym, refl, ap, ◌∙◌, le_of_suc-le-suc, not-suc-le-zero, arith, length-append, length-drop, length-take-le, take_at, le-ltb, lt-ltb}
 use lib.ListN.{length-map}
 use lib.Seq.{take-append-le}
@@ -173,7 +174,7 @@ module _ (cut : Float) (ss ds : List Float) (p : Pose) (l : List ℕ) (n m i : �
       ∙ ap (λ (x : Option ℕ). recleaned k ss ds p (take m l) x out (λ q kept. cleaned k ss ds (3 - (i + 1)) q kept)) (sym f) ∙ turn k w
 
   -- x matches are kept, the first j numbers, and refitted
-  module _ (x j : ℕ) (r : Option Pose) (f : c ≡ Some x) (twice : j ≡ 2 * x)
+  module _ (x j : ℕ) (r : Result Pose Refusal) (f : c ≡ Some x) (twice : j ≡ 2 * x)
       (g : (after : Pose → Closed) → follows r after ≡ refitted p (ls_fit_once (view_of p cut) (rows ss ds (take j (out ++ drop m l)))) after) where
     kept_front : take (2 * x) (out ++ drop m l) ≡ take (x + x) out
     kept_front =
@@ -190,13 +191,13 @@ module _ (cut : Float) (ss ds : List Float) (p : Pose) (l : List ℕ) (n m i : �
         ∙ ap (λ (y : Float). refitted p (ls_fit_once (view_of p y) (rows ss ds (take (x + x) out))) (λ q. cleaned k ss ds (3 - (i + 1)) q (take (x + x) out))) (sym w)
         ∙ ap (λ (y : Option ℕ). recleaned k ss ds p (take m l) y out (λ q kept. cleaned k ss ds (3 - (i + 1)) q kept)) (sym f) ∙ turn k w
 
-    pub turn_unsound : r ≡ None → (k : Fixed) → k.cut ≡ cut → unsound ≡ whole k
+    pub turn_unsound : {u : Refusal} → r ≡ Err u → (k : Fixed) → k.cut ≡ cut → unsound ≡ whole k
     turn_unsound b k w =
-        ap (λ (y : Option Pose). follows y (λ q. cleaned k ss ds (3 - (i + 1)) q (take (2 * x) (out ++ drop m l)))) (sym b) ∙ turn_refits k w
+        ap (λ (y : Result Pose Refusal). follows y (λ q. cleaned k ss ds (3 - (i + 1)) q (take (2 * x) (out ++ drop m l)))) (sym b) ∙ turn_refits k w
 
-    pub turn_on : (q : Pose) → r ≡ Some q → (k : Fixed) → k.cut ≡ cut → cleaned k ss ds (3 - (i + 1)) q (take (2 * x) (out ++ drop m l)) ≡ whole k
+    pub turn_on : (q : Pose) → r ≡ Ok q → (k : Fixed) → k.cut ≡ cut → cleaned k ss ds (3 - (i + 1)) q (take (2 * x) (out ++ drop m l)) ≡ whole k
     turn_on q b k w =
-        ap (λ (y : Option Pose). follows y (λ q. cleaned k ss ds (3 - (i + 1)) q (take (2 * x) (out ++ drop m l)))) (sym b) ∙ turn_refits k w
+        ap (λ (y : Result Pose Refusal). follows y (λ q. cleaned k ss ds (3 - (i + 1)) q (take (2 * x) (out ++ drop m l)))) (sym b) ∙ turn_refits k w
 
 pub turns_end : (ss ds : List Float) (p : Pose) (ms : List ℕ) (i : ℕ) (k : Fixed) {whole : Closed} → 3 ≤ i → cleaned k ss ds (3 - i) p ms ≡ whole → fine p ms ≡ whole
 unfolding cleaned

@@ -1,7 +1,7 @@
 -- What the matcher leaves in its part of the list of whole numbers, and where its matches stand once they are renamed. Assumes nothing.
 use Rattle.std.proofs.Common.{◌≡◌, ℕ, ◌+◌, ◌-◌, ◌*◌, ◌/◌, ◌<◌, ◌≤◌, min, Bool, true, false, cond, ltb, List, ◌++◌, length, get_or, take, drop, replicate, sym, refl, ap, ◌∙◌, subst, append_assoc, arith, length-append, length-drop, length-take, length-take-le, get_or-take, take-take, take_at, get_or-append-add, take-add, drop_at, le-ltb}
 use lib.ListN.{length-replicate, get_or-replicate, replicate-append-replicate, get_or-append}
-use lib.Seq.{slice, length-slice}
+use lib.Seq.{slice, length-slice, drop-drop}
 use lib.Ieee.{Float}
 use Rattle.pairs.specs.Pairs.{pairs, spots_within}
 use Rattle.matching.specs.Merge.{not_after}
@@ -36,6 +36,12 @@ slice_at {A} x y z i k p q =
 pub slice_front : {A : Type 0} (a e n : ℕ) (l m : List A) → e ≤ n → take n l ≡ take n m → slice a e l ≡ slice a e m
 slice_front {A} a e n l m h same =
     ap (drop a) (sym (take-take e n l h) ∙ ap (take e) same ∙ take-take e n m h)
+
+-- a part of what a list starts with
+pub part_of : (a e m : ℕ) (l : List ℕ) → a ≤ e → e ≤ m → m ≤ length l → take (e - a) (drop a (take m l)) ≡ slice a e l
+part_of a e m l h k fits =
+    let long : e ≤ length (take m l) = omega (arith, length-take-le m l fits) in
+    part_is a e (take m l) h long ∙ slice_front a e m (take m l) l k (take-take m m l (omega arith))
 
 -- ---- the points of k spots, which stand in their regions
 
@@ -129,13 +135,13 @@ module _ (n q : ℕ) (spots : List Float) (limit : ℕ) (floats : List Float) (r
         ∙ ap (λ (l : List ℕ). l ++ flat found ++ rest) (replicate-append-replicate (2 * within) (within + q) 0)
         ∙ ap (λ (k : ℕ). replicate k 0 ++ flat found ++ rest) all
 
-    -- no count of matches: too many pairs
-    pub too_many : ((t : ℕ) → x ≡ Ok t → ⊥) → true ≡ over
-    too_many h = by over refl
+    -- a refusal: too many pairs
+    pub too_many : {u : Refusal} → x ≡ Err u → (true ≡ over) × (u ≡ ManyPairs)
+    too_many {u} h = by over refl
       where
-        by : (b : Bool) → over ≡ b → true ≡ b
-        by true e = refl
-        by false e = absurd (h (length found) (fits_answer e))
+        by : (b : Bool) → over ≡ b → (true ≡ b) × (u ≡ ManyPairs)
+        by true e = let f : x ≡ Err ManyPairs = if_over e in (refl, cc)
+        by false e = let f : x ≡ Ok (length found) = fits_answer e in let z : ◌≡◌ {A = ℕ} 0 1 = cc in absurd (omega arith)
 
     module _ {t : ℕ} (is : x ≡ Ok t) (kept : length w ≡ length work) where
       pub not_over : false ≡ over
@@ -250,10 +256,32 @@ module _ (n q : ℕ) (spots : List Float) (limit : ℕ) (floats : List Float) (r
                   ∙ slice_at (take (8 * n) o') new (drop (8 * n + 2 * t) o') (8 * n) (2 * t) before (omega (arith, renamed_many ids found, count_is));
             }
 
-        pub found_there : {v : ℕ} {after : List ℕ} → v ≡ within → length after ≡ length o'
+        found_there : {v : ℕ} {after : List ℕ} → v ≡ within → length after ≡ length o'
             → after ≡ take (8 * n) o' ++ renamed_by (slice (3 * n) (3 * n + q) o') (slice (4 * n + 3 * v + q) (4 * n + 3 * v + q + 2 * t) o') ++ drop (8 * n + 2 * t) o'
             → NewAt n v t (renamed_by ids (flat found)) o after
         found_there {v} {after} u same e =
             subst (λ (k : ℕ). NewAt n k t (renamed_by ids (flat found)) o after) (sym u)
             (new_there same
             (e ∙ ap (λ (k : ℕ). take (8 * n) o' ++ renamed_by (slice (3 * n) (3 * n + q) o') (slice (4 * n + 3 * k + q) (4 * n + 3 * k + q + 2 * t) o') ++ drop (8 * n + 2 * t) o') u))
+
+        -- the new matches are written from place 8 n on, over a part that is lent beside what is read
+        pub found_beside : {v : ℕ} {front new : List ℕ} → take (8 * n) o' ≡ front → v ≡ within → length new ≡ length (drop (8 * n) o')
+            → (let p = 4 * n + 3 * v + q in
+            let ms = take (p + 2 * t - p) (drop p (take (8 * n) o')) in
+            new ≡ renamed_by (take (3 * n + q - 3 * n) (drop (3 * n) (take (8 * n) o'))) ms ++ drop (length ms) (drop (8 * n) o'))
+            → NewAt n v t (renamed_by ids (flat found)) o (front ++ new)
+        found_beside {v} {front} {new} f u same e =
+            let p = 4 * n + 3 * v + q in
+            let whole : 8 * n ≤ length o' = omega (arith, long) in
+            let end : p + 2 * t ≤ 8 * n = omega (arith, u, reach) in
+            let a : take (3 * n + q - 3 * n) (drop (3 * n) (take (8 * n) o')) ≡ slice (3 * n) (3 * n + q) o' =
+            part_of (3 * n) (3 * n + q) (8 * n) o' (omega arith) (omega (arith, points_many, room)) whole in
+            let b : take (p + 2 * t - p) (drop p (take (8 * n) o')) ≡ slice p (p + 2 * t) o' = part_of p (p + 2 * t) (8 * n) o' (omega arith) end whole in
+            let many : length (take (p + 2 * t - p) (drop p (take (8 * n) o'))) ≡ 2 * t =
+            omega (arith, ap length b, length-slice p (p + 2 * t) o' (omega (arith, end, whole))) in
+            let rest : drop (length (take (p + 2 * t - p) (drop p (take (8 * n) o')))) (drop (8 * n) o') ≡ drop (8 * n + 2 * t) o' =
+            ap (λ (j : ℕ). drop j (drop (8 * n) o')) many ∙ drop-drop (2 * t) (8 * n) o' in
+            let is : new ≡ renamed_by (slice (3 * n) (3 * n + q) o') (slice p (p + 2 * t) o') ++ drop (8 * n + 2 * t) o' = rw (← a, ← b, ← rest) e in
+            subst (λ (l : List ℕ). NewAt n v t (renamed_by ids (flat found)) o (l ++ new)) f
+            (found_there u (omega (arith, length-append (take (8 * n) o') new, length-take-le (8 * n) o' whole, same, length-drop (8 * n) o'))
+            (ap (λ (l : List ℕ). take (8 * n) o' ++ l) is ∙ sym (append_assoc (take (8 * n) o') _ (drop (8 * n + 2 * t) o'))))

@@ -1,11 +1,11 @@
 -- The lists that a run works in stay the same lists. Assumes nothing.
-use Rattle.std.proofs.Common.{refl, ◌∙◌, arith}
-use Rattle.wcs_refine.specs.Keeping.{Ready, Same}
-use Rattle.wcs_refine.specs.declared.course.Course.{Course}
+use Rattle.std.proofs.Common.{refl, ◌∙◌}
+use Rattle.wcs_refine.specs.Keeping.{Fits, Same}
 use Rattle.wcs_refine.specs.declared.working.Working.{Working}
 
 pub same_self : (w : Working) → Same w w
 same_self w = record {
+  course = refl;
   numbers = refl;
   floats = refl;
   distances = refl;
@@ -18,6 +18,7 @@ same_self w = record {
 
 pub same_on : {w w₁ w₂ : Working} → Same w w₁ → Same w₁ w₂ → Same w w₂
 same_on a b = record {
+  course = b.course ∙ a.course;
   numbers = b.numbers ∙ a.numbers;
   floats = b.floats ∙ a.floats;
   distances = b.distances ∙ a.distances;
@@ -28,9 +29,6 @@ same_on a b = record {
   indices_long = b.indices_long ∙ a.indices_long;
 }
 
--- and what they had room for they have room for
-pub ready_on : {c : Course} {w w₁ : Working} → Ready c w → Same w w₁ → Ready c w₁
-ready_on r s = record {
-  roomy = record { many = omega (arith, r.roomy.many, s.numbers_long); far = omega (arith, r.roomy.far, s.floats_long) };
-  capacity = omega (arith, r.capacity, s.distances_long, s.indices_long);
-}
+-- A state has room in its regions.
+pub fits_of : (w : Working) → Fits w.course.k w.course.room w.held
+fits_of w = record { used = w.used; cached = w.cached }

@@ -13,12 +13,14 @@ use Rattle.entry.specs.Fixed.{Fixed, search_radius, requery_margin, prune_r, kee
 use Rattle.query.specs.Query.{dot32, axis32, Cache, full, scanned, query, drifted, Prediction, predictions, pruned}
 use Rattle.panel.specs.Points.{points_of}
 use Rattle.wcs_refine.specs.Associate.{laid}
-use Rattle.wcs_refine.specs.Round.{Found, associated, compared, fresh, reused, searched}
+use Rattle.wcs_refine.specs.Round.{State, Found, associated, compared, fresh, reused, searched}
 use Rattle.query.specs.Listing.{least_cos_of, falling, standing, Fronted}
 use Rattle.wcs_refine.specs.Listing.{points, ids_of, Told}
 use Rattle.wcs_refine.specs.Keeping.{cache_of, held_cache, held_matches, Fits, AssociatedTo, LookedTo, SearchedTo}
 use Rattle.query.specs.Sighting.{due, afresh, kept}
 use Rattle.wcs_refine.specs.Sighting.{ListedTo, ToldTo, PrunedTo}
+use Rattle.std.specs.Prelude.{Ok, Err}
+use Rattle.refusal.specs.declared.Refusal.{Refusal}
 use Rattle.query.specs.declared.Held.{Held}
 use Rattle.wcs_refine.specs.declared.associating.Step.{Step}
 use Rattle.query.specs.declared.Looked.{Looked}
@@ -263,25 +265,32 @@ module _ (k : Settings) (n : ℕ) (ds : List Float) (h : Held) (l : List ℕ) (f
 
 -- ---- the matcher on what the search found
 
-module _ (k : Settings) (n : ℕ) (spots ds : List Float) (h : Held) (radius : Float) (l l₁ l₂ : List ℕ) (fs : List Float) (fits : Fits k n h) where
+module _ (k : Settings) (n : ℕ) (spots ds : List Float) (h : Held) (radius : Float) (l l₁ : List ℕ) (fs : List Float) (left : State) (fits : h.used ≤ n) where
   matches_same : (g : Held) → g.used ≡ h.used → take (2 * n) l₁ ≡ take (2 * n) l → held_matches g l₁ ≡ held_matches h l
   matches_same g e f =
-      let low : 2 * h.used ≤ 2 * n = omega (arith, fits.used) in
+      let low : 2 * h.used ≤ 2 * n = omega (arith, fits) in
       ap (λ (u : ℕ). take (2 * u) l₁) e ∙ sym (take-take (2 * h.used) (2 * n) l₁ low) ∙ ap (take (2 * h.used)) f
       ∙ take-take (2 * h.used) (2 * n) l low
 
-  pub searches : (a : Looked) (t : Step) → LookedTo k n ds h l l₁ fs a → AssociatedTo k n (points_of spots k.limit) a.held radius a.predicted l₁ fs l₂ t
-      → SearchedTo k n spots ds h radius l l₂ (record { held = t.held; verdict = t.verdict; queries = a.queries; comparisons = t.comparisons })
-  searches a t s m =
-      let qs = s.predictions in
-      let found = s.searched spots (held_matches h l) radius in
-      record {
-        next =
-            m.next qs s.predicted ∙ ap (λ (p : Pose). associated (fixed_of k) (points_of spots k.limit) p (held_matches a.held l₁) (held_cache n a.held l₁) radius qs) s.pose
-            ∙ ap (λ (x : List ℕ). associated (fixed_of k) (points_of spots k.limit) h.pose x (held_cache n a.held l₁) radius qs)
-            (matches_same a.held s.used s.matches)
-            ∙ sym (ap (λ (x : Found). x.next) found);
-        count = s.count ∙ sym (ap (λ (x : Found). length x.queries) found);
-        comparisons = m.comparisons qs s.predicted ∙ sym (ap (λ (x : Found). x.comparisons) found);
-        fits = m.fits;
-      }
+  module _ (a : Looked) (s : LookedTo k n ds h l l₁ fs a) where
+    abbrev pub found : Found
+    found = searched (fixed_of k) spots ds h.pose (held_matches h l) radius (held_cache n h l)
+
+    found_is : associated (fixed_of k) (points_of spots k.limit) a.held.pose (held_matches a.held l₁) (held_cache n a.held l₁) radius s.predictions ≡ found.next
+    found_is =
+        ap (λ (p : Pose). associated (fixed_of k) (points_of spots k.limit) p (held_matches a.held l₁) (held_cache n a.held l₁) radius s.predictions) s.pose
+        ∙ ap (λ (x : List ℕ). associated (fixed_of k) (points_of spots k.limit) h.pose x (held_cache n a.held l₁) radius s.predictions)
+        (matches_same a.held s.used s.matches)
+        ∙ sym (ap (λ (x : Found). x.next) (s.searched spots (held_matches h l) radius))
+
+    pub search_refused : (x : Refusal) → AssociatedTo k n (points_of spots k.limit) a.held radius a.predicted l₁ fs left (Err x)
+        → SearchedTo left found (Err x)
+    search_refused x m = m s.predictions s.predicted ∙ found_is
+
+    pub searches : (t : Step) → AssociatedTo k n (points_of spots k.limit) a.held radius a.predicted l₁ fs left (Ok t)
+        → SearchedTo left found (Ok (record { step = t; queries = a.queries }))
+    searches t m = record {
+      next = m.next s.predictions s.predicted ∙ found_is;
+      count = s.count ∙ sym (ap (λ (x : Found). length x.queries) (s.searched spots (held_matches h l) radius));
+      comparisons = m.comparisons s.predictions s.predicted ∙ sym (ap (λ (x : Found). x.comparisons) (s.searched spots (held_matches h l) radius));
+    }

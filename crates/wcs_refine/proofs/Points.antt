@@ -10,8 +10,11 @@ use Rattle.entry.specs.declared.Settings.{Settings}
 use Rattle.entry.specs.Entry.{fixed_of}
 use Rattle.query.specs.declared.Held.{Held}
 use Rattle.query.specs.Query.{Prediction}
-use Rattle.wcs_refine.specs.Round.{associated, compared}
+use Rattle.wcs_refine.specs.Round.{State, associated, compared}
 use Rattle.wcs_refine.specs.Keeping.{held_cache, held_matches, PointsAt, points_at, Predicted, AssociatedTo}
+use Rattle.std.specs.Prelude.{Result}
+use Rattle.std.proofs.lemmas.Result.{MatchResult-weaker}
+use Rattle.refusal.specs.declared.Refusal.{Refusal}
 use Rattle.wcs_refine.specs.declared.associating.Step.{Step}
 use Rattle.wcs_refine.proofs.FindSteps.{slice_at, slice_front}
 
@@ -63,19 +66,21 @@ module _ (spots floats : List Float) (to k : ℕ) (fits : to + 2 * k ≤ length 
 
 -- ---- the matcher on the points, which stand in their regions
 
-pub spots_associated : (k : Settings) (n q within : ℕ) (spots floats laid : List Float) (h : Held) (r : Float) (before after : List ℕ) (s : Step) → q ≤ n
+pub spots_associated : (k : Settings) (n q within : ℕ) (spots floats laid : List Float) (h : Held) (r : Float) (before : List ℕ) (left : State) (s : Result Step Refusal) → q ≤ n
     → within ≡ within_limit spots k.limit → PointsAt spots within (4 * n) floats laid
-    → AssociatedTo k n (points_at n within laid) h r q before laid after s
-    → AssociatedTo k n (points_of spots k.limit) h r q before floats after s
+    → AssociatedTo k n (points_at n within laid) h r q before laid left s
+    → AssociatedTo k n (points_of spots k.limit) h r q before floats left s
 unfolding points_of
-spots_associated k n q within spots floats laid h r before after s few e p a =
+spots_associated k n q within spots floats laid h r before left s few e p a =
     let same : points_at n within laid ≡ coordinates spots 0 (within_limit spots k.limit) = p.points ∙ ap (coordinates spots 0) e in
     let there : (qs : List Prediction) → Predicted n q before floats qs → Predicted n q before laid qs =
     λ qs w. record { ids = w.ids; points = w.points ∙ sym (p.front (2 * n) (2 * n + 2 * q) (omega arith)) } in
-    record {
-      next = λ qs w.
-          a.next qs (there qs w)
-          ∙ ap (λ (l : List Float). associated (fixed_of k) l h.pose (held_matches h before) (held_cache n h before) r qs) same;
-      comparisons = λ qs w. a.comparisons qs (there qs w) ∙ ap (λ (l : List Float). compared (fixed_of k) l r qs) same;
-      fits = a.fits;
-    }
+    let is : (qs : List Prediction) → associated (fixed_of k) (points_at n within laid) h.pose (held_matches h before) (held_cache n h before) r qs
+    ≡ associated (fixed_of k) (coordinates spots 0 (within_limit spots k.limit)) h.pose (held_matches h before) (held_cache n h before) r qs =
+    λ qs. ap (λ (l : List Float). associated (fixed_of k) l h.pose (held_matches h before) (held_cache n h before) r qs) same in
+    MatchResult-weaker s a
+    (λ t b. record {
+      next = λ qs w. b.next qs (there qs w) ∙ is qs;
+      comparisons = λ qs w. b.comparisons qs (there qs w) ∙ ap (λ (l : List Float). compared (fixed_of k) l r qs) same;
+    })
+    (λ x b qs w. b qs (there qs w) ∙ is qs)

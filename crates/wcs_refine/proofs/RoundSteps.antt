@@ -1,6 +1,7 @@
--- A round's parts: the matcher's radius, the clip in the working lists, the lengths that stay, and what a verdict ends. Assumes nothing.
+-- A round's parts: the matcher's radius, the clip in the working lists, and what phases B to D and a whole round come to. Assumes nothing.
 use Rattle.stats.specs.declared.MedianSigma.{MedianSigma}
 use Rattle.std.specs.Prelude.{Option, Some, None, Result, Ok, Err}
+use Rattle.refusal.specs.declared.Refusal.{Refusal}
 use Rattle.refusal.specs.declared.Refusal.TheVariants.{Unsound as OutOfBounds}
 use Rattle.passes.specs.declared.Unsound.{Unsound}
 use Rattle.std.proofs.Common.{◌≡◌, ℕ, ◌+◌, ◌-◌, ◌*◌, ◌/◌, ◌≤◌, List, ◌++◌, length, take, drop, sym, ap, ◌∙◌, subst, arith, take-append-drop, length-take-le}
@@ -17,13 +18,12 @@ use Rattle.entry.specs.Entry.{fixed_of}
 use Rattle.passes.specs.Fit.{fit_passes}
 use Rattle.wcs_refine.specs.Clip.{statistics, clipped}
 use Rattle.wcs_refine.specs.Associate.{adaptive_px}
-use Rattle.wcs_refine.specs.Round.{Found, Round, searched, rest, fitted, round}
+use Rattle.wcs_refine.specs.Round.{State, Found, Round, searched, rest, fitted, round}
 use Rattle.passes.specs.Fit.{passes_at, passes_of}
 use Rattle.wcs_refine.specs.Cleaning.{Statted, ClippedTo}
-use Rattle.wcs_refine.specs.Keeping.{cache_of, held_cache, held_matches, held_state, with_used, Fits, next_of, SearchedTo, RoundTo}
-use Rattle.wcs_refine.specs.Stepping.{posed, residuals_at, TrimmedTo, rest_of, RestTo}
+use Rattle.wcs_refine.specs.Keeping.{cache_of, held_cache, held_matches, held_state, Fits, SoughtAs, SearchedTo, RoundTo}
+use Rattle.wcs_refine.specs.Stepping.{residuals_at, TrimmedTo}
 use Rattle.query.specs.declared.Held.{Held}
-use Rattle.wcs_refine.specs.declared.keeping.Verdict.TheVariants.{Refused}
 use Rattle.passes.specs.declared.Passed.{Passed}
 use Rattle.wcs_refine.specs.declared.searching.Sought.{Sought}
 use Rattle.wcs_refine.specs.declared.rounds.Trimmed.{Trimmed}
@@ -86,6 +86,33 @@ same_past p l m a b e h g =
     past_front p (drop m l) a b h g ∙ ap (λ (x : ℕ). slice (a - x) (b - x) (drop m l)) e
     ∙ sym (past_front (take m l) (drop m l) a b h' g') ∙ ap (slice a b) (take-append-drop m l)
 
+-- ---- a state with another count of matches, or at another pose
+
+abbrev with_used : Held → ℕ → Held
+with_used h n = record {
+  pose = h.pose;
+  used = n;
+  filled = h.filled;
+  boresight = h.boresight;
+  theta = h.theta;
+  cached = h.cached;
+}
+
+abbrev posed : Held → Pose → Held
+posed h p = record {
+  pose = p;
+  used = h.used;
+  filled = h.filled;
+  boresight = h.boresight;
+  theta = h.theta;
+  cached = h.cached;
+}
+
+-- What phases B to D come to, from the pose of the state h.
+abbrev rest_at : Settings → ℕ → List Float → List Float → Held → List ℕ → Found
+rest_at k n ss ds h l =
+    rest (fixed_of k) ss ds h.pose (held_matches h l) (held_cache n h l) (residuals_at k ss ds h.pose (held_matches h l))
+
 -- ---- phases B to D: the first m numbers of l, the matches of h, are clipped to out
 
 module _ (k : Settings) (n : ℕ) (ss ds : List Float) (h : Held) (l : List ℕ) (m : ℕ) (out : List ℕ) (t : Trimmed) (fits : Fits k n h) (room : 16 * n ≤ length l)
@@ -110,7 +137,7 @@ module _ (k : Settings) (n : ℕ) (ss ds : List Float) (h : Held) (l : List ℕ)
   renew_radius : t.radius ≡ adaptive_px (fixed_of k) (statistics (residuals_at k ss ds h.pose (held_matches h l)))
   renew_radius = d.radius ∙ ap (λ (x : ℕ). adaptive_px (fixed_of k) (statistics (residuals_at k ss ds h.pose (take x l)))) is
 
-  renew_rest : searched (fixed_of k) ss ds h.pose (held_matches (with_used h t.used) (out ++ drop m l)) t.radius (held_cache n (with_used h t.used) (out ++ drop m l)) ≡ rest_of k n ss ds h l
+  renew_rest : searched (fixed_of k) ss ds h.pose (held_matches (with_used h t.used) (out ++ drop m l)) t.radius (held_cache n (with_used h t.used) (out ++ drop m l)) ≡ rest_at k n ss ds h l
   unfolding rest
   renew_rest =
       let rs = residuals_at k ss ds h.pose (held_matches h l) in
@@ -118,19 +145,19 @@ module _ (k : Settings) (n : ℕ) (ss ds : List Float) (h : Held) (l : List ℕ)
       ∙ ap (λ (x : Float). searched (fixed_of k) ss ds h.pose (clipped rs (statistics rs) (held_matches h l)) x (held_cache n (with_used h t.used) (out ++ drop m l))) renew_radius
       ∙ ap (searched (fixed_of k) ss ds h.pose (clipped rs (statistics rs) (held_matches h l)) (adaptive_px (fixed_of k) (statistics rs))) renew_cache
 
-  pub renewed : (after : List ℕ) (s : Sought) {h' : Held} → h' ≡ with_used h t.used → SearchedTo k n ss ds h' t.radius (out ++ drop m l) after s → RestTo k n ss ds h l after s
-  renewed after s e c =
-      let g : SearchedTo k n ss ds (with_used h t.used) t.radius (out ++ drop m l) after s = subst (λ (x : Held). SearchedTo k n ss ds x t.radius (out ++ drop m l) after s) e c in
-      record {
-        next = g.next ∙ ap (λ (x : Found). x.next) renew_rest;
-        count = g.count ∙ ap (λ (x : Found). length x.queries) renew_rest;
-        comparisons = g.comparisons ∙ ap (λ (x : Found). x.comparisons) renew_rest;
-        fits = g.fits;
-      }
+  -- no more matches than there were
+  pub renew_fewer : t.used ≤ h.used
+  renew_fewer = omega (arith, d.fewer, part_length)
+
+  pub renewed : (left : State) (s : Result Sought Refusal)
+      → SearchedTo left
+      (searched (fixed_of k) ss ds h.pose (held_matches (with_used h t.used) (out ++ drop m l)) t.radius (held_cache n (with_used h t.used) (out ++ drop m l))) s
+      → SearchedTo left (rest_at k n ss ds h l) s
+  renewed left s c = subst (λ (x : Found). SearchedTo left x s) renew_rest c
 
 -- ---- one round: the passes over the matches of h
 
-module _ (k : Settings) (n : ℕ) (ss ds : List Float) (h : Held) (l : List ℕ) (f : Passed) (fits : Fits k n h)
+module _ (k : Settings) (n : ℕ) (ss ds : List Float) (h : Held) (l : List ℕ) (f : Passed)
     (e : passes_of f ≡ fit_passes 10 k.cut (rows ss ds (held_matches h l)) h.pose) where
   round_passed : fitted (fixed_of k) ss ds (held_state n h l) (rows ss ds (held_matches h l)) (passes_of f) ≡ round (fixed_of k) ss ds (held_state n h l)
   unfolding round
@@ -143,26 +170,25 @@ module _ (k : Settings) (n : ℕ) (ss ds : List Float) (h : Held) (l : List ℕ)
   round_ended b =
       ap (λ (y : Result Pose Unsound). fitted (fixed_of k) ss ds (held_state n h l) (rows ss ds (held_matches h l)) (passes_at f.passes y)) (sym b) ∙ round_passed
 
-  pub round_unsound : {u : Unsound} → f.end ≡ Err u
-      → RoundTo k n ss ds h l l (record { held = h; verdict = Refused OutOfBounds; passes = f.passes; queries = 0; comparisons = 0 })
-  unfolding fitted next_of
-  round_unsound b = record {
-    next = ap (λ (x : Round). x.found.next) (round_ended b);
-    count = ap (λ (x : Round). length x.found.queries) (round_ended b);
-    comparisons = ap (λ (x : Round). x.found.comparisons) (round_ended b);
-    passes = ap (λ (x : Round). x.passes) (round_ended b);
-    fits = fits;
-  }
+  abbrev this : Round
+  this = round (fixed_of k) ss ds (held_state n h l)
 
-  pub round_sound : {p : Pose} (after : List ℕ) (s : Sought) {h' : Held} → f.end ≡ Ok p → h' ≡ posed h p → RestTo k n ss ds h' l after s
-      → RoundTo k n ss ds h l after (record { held = s.held; verdict = s.verdict; passes = f.passes; queries = s.queries; comparisons = s.comparisons })
+  pub round_unsound : {u : Unsound} → f.end ≡ Err u → (left : State) → RoundTo left this (Err OutOfBounds)
   unfolding fitted
-  round_sound {p} after s b g c =
-      let d : RestTo k n ss ds (posed h p) l after s = subst (λ (x : Held). RestTo k n ss ds x l after s) g c in
-      record {
-        next = d.next ∙ ap (λ (x : Round). x.found.next) (round_ended b);
-        count = d.count ∙ ap (λ (x : Round). length x.found.queries) (round_ended b);
-        comparisons = d.comparisons ∙ ap (λ (x : Round). x.found.comparisons) (round_ended b);
-        passes = ap (λ (x : Round). x.passes) (round_ended b);
-        fits = d.fits;
-      }
+  round_unsound b left = ap (λ (x : Round). x.found.next) (round_ended b)
+
+  module _ {p : Pose} (left : State) (b : f.end ≡ Ok p) where
+    rest_is : rest_at k n ss ds (posed h p) l ≡ this.found
+    unfolding fitted
+    rest_is = ap (λ (x : Round). x.found) (round_ended b)
+
+    pub round_refused : (x : Refusal) → SearchedTo left (rest_at k n ss ds (posed h p) l) (Err x) → RoundTo left this (Err x)
+    round_refused x c = c ∙ ap (λ (x : Found). x.next) rest_is
+
+    pub round_sound : (s : Sought) → SearchedTo left (rest_at k n ss ds (posed h p) l) (Ok s)
+        → RoundTo left this (Ok (record { found = s; passes = f.passes }))
+    unfolding fitted
+    round_sound s c = record {
+      found = subst (λ (x : Found). SoughtAs left x s) rest_is c;
+      passes = ap (λ (x : Round). x.passes) (round_ended b);
+    }

@@ -1,5 +1,5 @@
 -- The rounds one by one: what is left of them, with the counts so far, gives the whole; and what a round at most counts. Assumes nothing.
-use Rattle.std.proofs.Common.{◌≡◌, ℕ, zero, suc, ◌+◌, ◌-◌, ◌<◌, ◌≤◌, max, Bool, true, false, ltb, List, [], ◌++◌, length, sym, refl, ap, ◌∙◌, arith, length-append}
+use Rattle.std.proofs.Common.{◌≡◌, ℕ, zero, suc, ◌+◌, ◌-◌, ◌<◌, ◌≤◌, max, Bool, true, false, ltb, List, [], ◌++◌, length, sym, refl, ap, ◌∙◌, subst, arith, length-append}
 use lib.Ieee.{Float}
 use Rattle.fit.specs.Normal.{ls_fit_once}
 use Rattle.fit.specs.Rows.{Row, rows, view_of}
@@ -14,16 +14,14 @@ use Rattle.passes.specs.Fit.{moved, sound, still, Passes, goes_on, passed, fit_p
 use Rattle.wcs_refine.specs.Clip.{statistics, clipped}
 use Rattle.query.specs.Query.{query, Cache, empty, full, drifted}
 use Rattle.wcs_refine.specs.Associate.{adaptive_px}
-use Rattle.wcs_refine.specs.Round.{State, Next, refuse, Found, Round, fresh, reused, searched, rest, fitted, round, Ending, ended, Run, carry, loop}
-use Rattle.wcs_refine.specs.Keeping.{held_state, Fits, next_of, RoundTo, ending_of, RanTo}
-use Rattle.wcs_refine.specs.Stepping.{ending}
-use Rattle.std.specs.Prelude.{Option, Some, None}
+use Rattle.wcs_refine.specs.Round.{State, Next, refuse, Found, Round, fresh, reused, searched, rest, fitted, round, Ending, refused, ended, Run, carry, loop}
+use Rattle.wcs_refine.specs.Keeping.{next_of, RoundedAs, RoundTo, counts_of, RanTo}
+use Rattle.wcs_refine.specs.Stepping.{round_of}
+use Rattle.std.specs.Prelude.{Result, Ok}
 use Rattle.refusal.specs.declared.Refusal.{Refusal}
-use Rattle.query.specs.declared.Held.{Held}
-use Rattle.wcs_refine.specs.declared.keeping.Verdict.{Verdict}
-use Rattle.wcs_refine.specs.declared.keeping.Verdict.TheVariants.{GoOn, Done, Refused}
+use Rattle.wcs_refine.specs.declared.course.Course.{Course}
 use Rattle.wcs_refine.specs.declared.rounds.Rounded.{Rounded}
-use Rattle.wcs_refine.specs.declared.rounds.Ran.{Ran}
+use Rattle.wcs_refine.specs.declared.rounds.Counts.{Counts}
 use Rattle.wcs_refine.proofs.Along.{either}
 
 -- ---- at most so many passes as are asked for
@@ -88,128 +86,123 @@ round_passes k ss ds s = few_passes 10 k.cut (rows ss ds s.matches) s.pose
 
 -- ---- the loop
 
--- How a run ends, and its counts, after i rounds with p passes, q queries and at most m comparisons.
+-- How a run ends, with its counts.
 pub record Sums : Type 0 where
   pub ending : Ending
-  pub rounds : ℕ
-  pub passes : ℕ
-  pub count : ℕ
-  pub most : ℕ
+  pub counts : Counts
 
-abbrev pub later : ℕ → ℕ → ℕ → ℕ → Run → Sums
-later i p q m r = record {
-  ending = r.ending;
-  rounds = i + r.rounds;
-  passes = p + r.passes;
-  count = q + length r.queries;
-  most = max m r.comparisons;
-}
+abbrev counted : ℕ → ℕ → ℕ → ℕ → Counts
+counted i p q m = record { rounds = i; passes = p; queries = q; comparisons = m }
 
-abbrev ends : Ending → ℕ → ℕ → ℕ → ℕ → Sums
-ends e i p q m = record { ending = e; rounds = i; passes = p; count = q; most = m }
+abbrev ends : Ending → Counts → Sums
+ends e c = record { ending = e; counts = c }
 
-ends_same : (e : Ending) {i j p r q u m n : ℕ} → i ≡ j → p ≡ r → q ≡ u → m ≡ n → ends e i p q m ≡ ends e j r u n
+abbrev pub totals : Run → Sums
+totals r = ends r.ending (counts_of r)
+
+-- The same after what was counted before it.
+abbrev pub later : Counts → Run → Sums
+later c r =
+    ends r.ending
+    (counted (c.rounds + r.rounds) (c.passes + r.passes) (c.queries + length r.queries) (max c.comparisons r.comparisons))
+
+ends_same : (e : Ending) {i j p r q u m n : ℕ} → i ≡ j → p ≡ r → q ≡ u → m ≡ n → ends e (counted i p q m) ≡ ends e (counted j r u n)
 ends_same e a b c d = cc
 
-same_counts : (f : ℕ → ℕ → ℕ → Sums) {a b c d u v : ℕ} → a ≡ b → c ≡ d → u ≡ v → f a c u ≡ f b d v
-same_counts f x y z = cc
-
 -- a round of x passes, the queries qs and y comparisons
-module _ (i p q m x y : ℕ) (qs : List (List ℕ)) (s : State) (f : State → Run) where
-  carry_on : (v : Verdict) → ending v ≡ None → later (i + 1) (p + x) (q + length qs) (max m y) (f s) ≡ later i p q m (carry x qs y (next_of v s) f)
-  unfolding ending next_of carry
-  carry_on GoOn h =
-      let r = f s in
-      let a : i + 1 + r.rounds ≡ i + suc r.rounds = omega arith in
-      let b : p + x + r.passes ≡ p + (x + r.passes) = omega arith in
-      let c : q + length qs + length r.queries ≡ q + length (qs ++ r.queries) = omega (arith, length-append qs r.queries) in
-      let d : max (max m y) r.comparisons ≡ max m (max y r.comparisons) = omega arith in
-      ends_same r.ending a b c d
-  carry_on Done h = let z : ◌≡◌ {A = ℕ} 0 1 = cc in absurd (omega arith)
-  carry_on (Refused r) h = let z : ◌≡◌ {A = ℕ} 0 1 = cc in absurd (omega arith)
+module _ (c : Counts) (x y : ℕ) (qs : List (List ℕ)) (s : State) (f : State → Run) where
+  abbrev more : Counts
+  more = counted (c.rounds + 1) (c.passes + x) (c.queries + length qs) (max c.comparisons y)
 
-  carry_ends : (v : Verdict) (r : Option Refusal) → ending v ≡ Some r
-      → ends (ending_of r s) (i + 1) (p + x) (q + length qs) (max m y) ≡ later i p q m (carry x qs y (next_of v s) f)
-  unfolding ending next_of carry ending_of
-  carry_ends GoOn r h = let z : ◌≡◌ {A = ℕ} 0 1 = cc in absurd (omega arith)
-  carry_ends Done r h =
-      let e : None ≡ r = cc in
-      ap (λ (y' : Option Refusal). ends (ending_of y' s) (i + 1) (p + x) (q + length qs) (max m y)) (sym e)
-  carry_ends (Refused z) r h =
-      let e : Some z ≡ r = cc in
-      ap (λ (y' : Option Refusal). ends (ending_of y' s) (i + 1) (p + x) (q + length qs) (max m y)) (sym e)
+  carry_on : {b : Bool} → b ≡ false → later more (f s) ≡ later c (carry x qs y (next_of b s) f)
+  unfolding next_of carry
+  carry_on h =
+      let r = f s in
+      let i : c.rounds + 1 + r.rounds ≡ c.rounds + suc r.rounds = omega arith in
+      let p : c.passes + x + r.passes ≡ c.passes + (x + r.passes) = omega arith in
+      let q : c.queries + length qs + length r.queries ≡ c.queries + length (qs ++ r.queries) = omega (arith, length-append qs r.queries) in
+      let m : max (max c.comparisons y) r.comparisons ≡ max c.comparisons (max y r.comparisons) = omega arith in
+      ends_same r.ending i p q m ∙ ap (λ (b : Bool). later c (carry x qs y (next_of b s) f)) (sym h)
+
+  carry_ends : {b : Bool} → b ≡ true → ends (ended s) more ≡ later c (carry x qs y (next_of b s) f)
+  unfolding next_of carry
+  carry_ends h = ap (λ (b : Bool). later c (carry x qs y (next_of b s) f)) (sym h)
 
 loop_next : (k : Fixed) (ss ds : List Float) (n : ℕ) (s : State)
     → (let r = round k ss ds s in loop k ss ds (suc n) s ≡ carry r.passes r.found.queries r.found.comparisons r.found.next (λ t. loop k ss ds n t))
 unfolding loop
 loop_next k ss ds n s = refl
 
--- ---- a turn: a round of h, whose lists stand in l, leaves s and after
+-- ---- a turn, after i rounds with counts c: a round from the state s
 
-module _ (k : Settings) (n : ℕ) (ss ds : List Float) (h : Held) (l after : List ℕ) (s : Rounded) (d : RoundTo k n ss ds h l after s) where
-  pub turn_passes : s.passes ≤ 10
-  turn_passes = omega (arith, d.passes, round_passes (fixed_of k) ss ds (held_state n h l))
+module _ (k : Settings) (ss ds : List Float) (s : State) where
+  abbrev this : Round
+  this = round (fixed_of k) ss ds s
 
-  pub turn_queries : s.queries ≤ 1
-  turn_queries = omega (arith, d.count, round_fair (fixed_of k) ss ds (held_state n h l))
-
-  module _ (most i p q m : ℕ) (less : i < most) {whole : Sums}
-      (left : later i p q m (loop (fixed_of k) ss ds (most - i) (held_state n h l)) ≡ whole) where
-    abbrev this : Round
-    this = round (fixed_of k) ss ds (held_state n h l)
-
+  module _ (most i : ℕ) (c : Counts) (less : i < most) {whole : Sums} (left : later c (loop (fixed_of k) ss ds (most - i) s) ≡ whole) where
     -- the rounds after it
     abbrev onward : State → Run
     onward t = loop (fixed_of k) ss ds (most - (i + 1)) t
 
-    abbrev next : State
-    next = held_state n s.held after
-
-    turn : later i p q m (carry this.passes this.found.queries this.found.comparisons (next_of s.verdict next) onward) ≡ whole
+    turn : later c (carry this.passes this.found.queries this.found.comparisons this.found.next onward) ≡ whole
     turn =
         let e : most - i ≡ suc (most - (i + 1)) = omega arith in
-        ap (λ (x : Next). later i p q m (carry this.passes this.found.queries this.found.comparisons x onward)) d.next
-        ∙ ap (later i p q m) (sym (loop_next (fixed_of k) ss ds (most - (i + 1)) (held_state n h l)))
-        ∙ sym (ap (λ (x : ℕ). later i p q m (loop (fixed_of k) ss ds x (held_state n h l))) e) ∙ left
+        ap (later c) (sym (loop_next (fixed_of k) ss ds (most - (i + 1)) s))
+        ∙ sym (ap (λ (x : ℕ). later c (loop (fixed_of k) ss ds x s)) e) ∙ left
 
-    -- o: the most comparisons by then
-    pub turn_on : {t : Option (Option Refusal)} {o : ℕ} → t ≡ ending s.verdict → t ≡ None → o ≡ max m s.comparisons
-        → later (i + 1) (p + s.passes) (q + s.queries) o (onward next) ≡ whole
-    turn_on f g e =
-        same_counts (λ a b c. later (i + 1) (p + a) (q + b) c (onward next)) d.passes d.count (e ∙ ap (max m) d.comparisons)
-        ∙ carry_on i p q m this.passes this.found.comparisons this.found.queries next onward s.verdict (sym f ∙ g) ∙ turn
+    pub turn_refused : {x : ℕ} → refuse x ≡ this.found.next → refused x ≡ whole.ending
+    unfolding carry
+    turn_refused e =
+        ap (λ (x : Next). (later c (carry this.passes this.found.queries this.found.comparisons x onward)).ending) e
+        ∙ ap (λ (x : Sums). x.ending) turn
 
-    pub turn_ends : {t : Option (Option Refusal)} {y : Option Refusal} {o : ℕ} → t ≡ ending s.verdict → t ≡ Some y → o ≡ max m s.comparisons
-        → ends (ending_of y next) (i + 1) (p + s.passes) (q + s.queries) o ≡ whole
-    turn_ends {y = y} f g e =
-        same_counts (λ a b c. ends (ending_of y next) (i + 1) (p + a) (q + b) c) d.passes d.count (e ∙ ap (max m) d.comparisons)
-        ∙ carry_ends i p q m this.passes this.found.comparisons this.found.queries next onward s.verdict y (sym f ∙ g) ∙ turn
+    -- it leaves r, and the state next; o: the most comparisons by then
+    module _ (next : State) (r : Rounded) (d : RoundedAs next this r) {o : ℕ} (e : o ≡ max c.comparisons r.found.step.comparisons) where
+      abbrev by_then : Counts
+      by_then = counted (c.rounds + 1) (c.passes + r.passes) (c.queries + r.found.queries) o
 
--- ---- before the first round, after the last, and the answer
+      by_then_is : by_then ≡ more c this.passes this.found.comparisons this.found.queries next onward
+      by_then_is =
+          let p = d.passes in
+          let q = d.found.count in
+          let m : o ≡ max c.comparisons this.found.comparisons = e ∙ ap (max c.comparisons) d.found.comparisons in
+          cc
 
-abbrev pub totals : Run → Sums
-totals r = ends r.ending r.rounds r.passes (length r.queries) r.comparisons
+      abbrev carried : Next → Sums
+      carried x = later c (carry this.passes this.found.queries this.found.comparisons x onward)
 
-module _ (k : Fixed) (ss ds : List Float) (most : ℕ) (s : State) where
-  pub rounds_end : (i p q m : ℕ) {whole : Sums} → i ≤ most → most ≤ i → later i p q m (loop k ss ds (most - i) s) ≡ whole → ends (ending_of None s) most p q m ≡ whole
-  unfolding loop ending_of
-  rounds_end i p q m low h left =
-      let e : most - i ≡ 0 = omega arith in
-      let a : most ≡ i + 0 = omega arith in
-      let b : p ≡ p + 0 = omega arith in
-      let c : q ≡ q + 0 = omega arith in
-      let d : m ≡ max m 0 = omega arith in
-      ends_same (ended s) a b c d ∙ sym (ap (λ (x : ℕ). later i p q m (loop k ss ds x s)) e) ∙ left
+      pub turn_on : r.found.step.converged ≡ false → later by_then (onward next) ≡ whole
+      turn_on h =
+          ap (λ (x : Counts). later x (onward next)) by_then_is
+          ∙ carry_on c this.passes this.found.comparisons this.found.queries next onward h ∙ ap carried d.found.next ∙ turn
 
-pub ran : (k : Settings) (n : ℕ) (ss ds : List Float) (most : ℕ) (h : Held) (before after : List ℕ) (r : Ran)
-    → ends (ending_of r.refusal (held_state n r.held after)) r.rounds r.passes r.queries r.comparisons
-    ≡ totals (loop (fixed_of k) ss ds most (held_state n h before))
-    → Fits k n r.held → RanTo k n ss ds most h before after r
-ran k n ss ds most h before after r e f = record {
-  ending = ap (λ (x : Sums). x.ending) e;
-  rounds = ap (λ (x : Sums). x.rounds) e;
-  passes = ap (λ (x : Sums). x.passes) e;
-  count = ap (λ (x : Sums). x.count) e;
-  comparisons = ap (λ (x : Sums). x.most) e;
-  fits = f;
-}
+      pub turn_ends : r.found.step.converged ≡ true → ends (ended next) by_then ≡ whole
+      turn_ends h =
+          ap (ends (ended next)) by_then_is
+          ∙ carry_ends c this.passes this.found.comparisons this.found.queries next onward h ∙ ap carried d.found.next ∙ turn
+
+  pub turn_passes : (next : State) (r : Rounded) → RoundedAs next this r → r.passes ≤ 10
+  turn_passes next r d = omega (arith, d.passes, round_passes (fixed_of k) ss ds s)
+
+  pub turn_queries : (next : State) (r : Rounded) → RoundedAs next this r → r.found.queries ≤ 1
+  turn_queries next r d = omega (arith, d.found.count, round_fair (fixed_of k) ss ds s)
+
+-- on an equal course
+pub on_course : (c d : Course) (left s : State) (r : Result Rounded Refusal) → d ≡ c → RoundTo left (round_of d s) r → RoundTo left (round_of c s) r
+on_course c d left s r e h = subst (λ (x : Course). RoundTo left (round_of x s) r) e h
+
+-- ---- after the last round, and the answer
+
+pub rounds_end : (k : Fixed) (ss ds : List Float) (most : ℕ) (s : State) (i : ℕ) (c : Counts) {whole : Sums} → most ≤ i
+    → later c (loop k ss ds (most - i) s) ≡ whole → ends (ended s) c ≡ whole
+unfolding loop
+rounds_end k ss ds most s i c h left =
+    let e : most - i ≡ 0 = omega arith in
+    let x : c.rounds ≡ c.rounds + 0 = omega arith in
+    let p : c.passes ≡ c.passes + 0 = omega arith in
+    let q : c.queries ≡ c.queries + 0 = omega arith in
+    let m : c.comparisons ≡ max c.comparisons 0 = omega arith in
+    ends_same (ended s) x p q m ∙ sym (ap (λ (x : ℕ). later c (loop k ss ds x s)) e) ∙ left
+
+pub ran : {left : State} {u : Run} {c : Counts} → ends (ended left) c ≡ totals u → RanTo left u (Ok c)
+ran e = record { ending = ap (λ (x : Sums). x.ending) e; counts = ap (λ (x : Sums). x.counts) e }

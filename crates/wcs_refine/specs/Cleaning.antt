@@ -1,11 +1,13 @@
 -- What the answers of the statistics, of the clips and of the report stand for. Definitions only. Assumes nothing.
-use Rattle.std.specs.Prelude.{◌≡◌, ℕ, ◌*◌, ◌/◌, ◌≤◌, cond, List, length, take, nat_lt, Float, Option, Some, None, IfSome}
+use Rattle.std.specs.Prelude.{◌≡◌, ℕ, ◌*◌, ◌/◌, ◌≤◌, cond, List, length, take, nat_lt, Float, Option, Some, None, Result, Ok, Err, IfOk, IfErr}
 use Rattle.fit.specs.Rows.{rows, view_of}
 use Rattle.residuals.specs.Residual.{residuals, Clipped, mad_clip_matches}
 use Rattle.solve.specs.Covariance.{covariance_from_normal}
 use Rattle.fit.specs.declared.Counted.{Counted}
 use Rattle.fit.specs.declared.Pose.{Pose}
 use Rattle.stats.specs.declared.MedianSigma.{MedianSigma}
+use Rattle.refusal.specs.declared.Refusal.{Refusal}
+use Rattle.refusal.specs.declared.Refusal.TheVariants.{Unsound}
 use Rattle.entry.specs.Fixed.{Fixed}
 use Rattle.wcs_refine.specs.Closing.{Closed, unsound, fine, most_clips, fewest_matches, cleaned, Report}
 use Rattle.wcs_refine.specs.Clip.{statistics, clipped}
@@ -39,19 +41,20 @@ closing_clip cut spots directions p ms =
     (clip_by rs ms (statistics rs))
 
 -- What follows a refit: `after` at its pose, or refusal 12.
-abbrev pub follows : Option Pose → (Pose → Closed) → Closed
-follows (Some p) after = after p
-follows None after = unsound
+abbrev pub follows : Result Pose Refusal → (Pose → Closed) → Closed
+follows (Ok p) after = after p
+follows (Err e) after = unsound
 
 -- What the closing clips leave: a pose and the matches at the front of their list, or refusal 12.
-abbrev pub closed_of : Option Cleaned → List ℕ → Closed
-closed_of (Some r) ms = fine r.pose (take (2 * r.used) ms)
-closed_of None ms = unsound
+abbrev pub closed_of : Result Cleaned Refusal → List ℕ → Closed
+closed_of (Ok r) ms = fine r.pose (take (2 * r.used) ms)
+closed_of (Err e) ms = unsound
 
 -- The code's closing clips are those of the definition, and leave no more matches than there were.
 pub record CleanedTo (cut : Float) (spots directions : List Float) (p : Pose) (used : ℕ) (before after : List ℕ)
-    (r : Option Cleaned) : Type 0 where
-  pub fewer : IfSome r (λ c. c.used ≤ used)
+    (r : Result Cleaned Refusal) : Type 0 where
+  pub fewer : IfOk r (λ c. c.used ≤ used)
+  pub refusal : IfErr r (λ e. e ≡ Unsound)
   pub closed : (k : Fixed) → k.cut ≡ cut
       → closed_of r after ≡ cleaned k spots directions most_clips p (take (2 * used) before)
 

@@ -1,6 +1,6 @@
 -- The new matches of a round, and whether they are the present ones, by a table with a place for each spot: what the code's parts promise.
 -- Definitions only. Assumes nothing.
-use Rattle.std.specs.Prelude.{◌≡◌, ℕ, ◌+◌, ◌-◌, ◌*◌, ◌<◌, ◌≤◌, Bool, false, not, ◌&&◌, ◌||◌, List, [], ◌∷◌, length, take, drop, ◌==◌, nat_lt, slice_index, Float, Option, is_none, IfSome}
+use Rattle.std.specs.Prelude.{◌≡◌, ℕ, ◌+◌, ◌-◌, ◌*◌, ◌<◌, ◌≤◌, Bool, false, not, ◌&&◌, ◌||◌, List, [], ◌∷◌, length, take, drop, ◌==◌, nat_lt, slice_index, Float, Result, is_err, IfOk, IfErr}
 use Rattle.std.proofs.Math.Seq.{slice}
 use Rattle.rounding.specs.Arith.{◌⊗◌}
 use Rattle.pairs.specs.Pairs.{pairs, spots_within}
@@ -10,6 +10,8 @@ use Rattle.matching.specs.Greedy.{flat, matches_of}
 use Rattle.pairs.specs.Candidates.{capacity}
 use Rattle.wcs_refine.specs.Associate.{Link, links, same_matches}
 use Rattle.wcs_refine.specs.Listing.{renamed_by}
+use Rattle.refusal.specs.declared.Refusal.{Refusal}
+use Rattle.refusal.specs.declared.Refusal.TheVariants.{ManyPairs}
 use Rattle.wcs_refine.specs.declared.associating.Tally.{Tally}
 
 -- A match of a spot and a direction, and whether two are the same.
@@ -102,7 +104,8 @@ pub record Tallied (n q : ℕ) (points : List Float) (limit : ℕ) (r : Float) (
 
 -- The matches of the spots' points with the q predictions, unless there are more pairs than the candidate lists hold.
 pub record FoundTo (n q : ℕ) (points : List Float) (limit : ℕ) (r : Float) (floats distances : List Float)
-    (indices before after : List ℕ) (f : Option Tally) : Type 0 where
-  pub full : is_none f
+    (indices before after : List ℕ) (f : Result Tally Refusal) : Type 0 where
+  pub full : is_err f
       ≡ nat_lt (capacity distances indices) (length (pairs points limit (slice (2 * n) (2 * n + 2 * q) floats) (r ⊗ r)))
-  pub found : IfSome f (Tallied n q points limit r floats before after)
+  pub refusal : IfErr f (λ e. e ≡ ManyPairs)
+  pub found : IfOk f (Tallied n q points limit r floats before after)

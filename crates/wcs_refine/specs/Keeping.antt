@@ -2,28 +2,24 @@
 -- Of n places a region: the list of whole numbers has the matches from 0 on (two regions), the cached directions (2), those of the predictions (3),
 -- the matcher's work (4 to 7) and the new matches (8 and 9); the list of floats has the residuals with scratch (0 and 1), the predictions' points (2 and 3)
 -- and those of the spots within the limit (4 and 5).
-use Rattle.std.specs.Prelude.{◌≡◌, ℕ, ◌+◌, ◌*◌, ◌≤◌, Bool, true, false, List, length, take, Float, Option, Some, None}
+use Rattle.std.specs.Prelude.{◌≡◌, ℕ, ◌+◌, ◌*◌, ◌≤◌, Bool, true, false, List, length, take, Float, Result, MatchResult}
 use Rattle.std.proofs.Math.Seq.{slice}
-use Rattle.pairs.specs.Candidates.{capacity}
 use Rattle.panel.specs.Points.{coordinates, points_of}
 use Rattle.entry.specs.declared.Settings.{Settings}
 use Rattle.entry.specs.Entry.{fixed_of}
 use Rattle.query.specs.Query.{Cache, empty, full, Prediction}
 use Rattle.wcs_refine.specs.Associate.{laid}
 use Rattle.wcs_refine.specs.Listing.{ids_of}
-use Rattle.wcs_refine.specs.Round.{State, Next, go, done, refuse, associated, compared, searched, round, Ending, refused, ended, loop}
+use Rattle.wcs_refine.specs.Round.{State, Next, go, done, refuse, Found, associated, compared, searched, Round, refused, ended, Run}
 use Rattle.query.specs.declared.Held.{Held}
 use Rattle.refusal.specs.Number.{number_of}
 use Rattle.refusal.specs.declared.Refusal.{Refusal}
-use Rattle.wcs_refine.specs.declared.course.Course.{Course}
 use Rattle.wcs_refine.specs.declared.working.Working.{Working}
-use Rattle.wcs_refine.specs.declared.keeping.Verdict.{Verdict}
-use Rattle.wcs_refine.specs.declared.keeping.Verdict.TheVariants.{GoOn, Done, Refused}
 use Rattle.wcs_refine.specs.declared.associating.Step.{Step}
 use Rattle.query.specs.declared.Looked.{Looked}
 use Rattle.wcs_refine.specs.declared.searching.Sought.{Sought}
 use Rattle.wcs_refine.specs.declared.rounds.Rounded.{Rounded}
-use Rattle.wcs_refine.specs.declared.rounds.Ran.{Ran}
+use Rattle.wcs_refine.specs.declared.rounds.Counts.{Counts}
 
 -- ---- the state
 
@@ -43,31 +39,15 @@ held_matches h l = take (2 * h.used) l
 abbrev pub held_state : ℕ → Held → List ℕ → State
 held_state n h l = record { pose = h.pose; matches = held_matches h l; cache = held_cache n h l }
 
--- The same state with another count of matches.
-abbrev pub with_used : Held → ℕ → Held
-with_used h n = record {
-  pose = h.pose;
-  used = n;
-  filled = h.filled;
-  boresight = h.boresight;
-  theta = h.theta;
-  cached = h.cached;
-}
+-- The state that a run is in.
+abbrev pub state_of : Working → State
+state_of w = held_state w.course.room w.held w.numbers.now
 
 -- ---- what every step is lent
 
--- Each of the sixteen regions of the working lists has room.
-pub record Roomy (n : ℕ) (numbers : List ℕ) (floats : List Float) : Type 0 where
-  pub many : 16 * n ≤ length numbers
-  pub far : 16 * n ≤ length floats
-
--- And the capacity is that of the candidate lists: what a run is lent.
-pub record Ready (c : Course) (w : Working) : Type 0 where
-  pub roomy : Roomy c.room w.numbers.now w.floats.now
-  pub capacity : c.k.capacity ≡ capacity w.distances.now w.indices.now
-
--- They are the same lists, as long as they were, whatever stands in them.
+-- The course and the lists are the same, and these as long as they were, whatever stands in them.
 pub record Same (w w' : Working) : Type 0 where
+  pub course : w'.course ≡ w.course
   pub numbers : w'.numbers.ghost_name ≡ w.numbers.ghost_name
   pub floats : w'.floats.ghost_name ≡ w.floats.ghost_name
   pub distances : w'.distances.ghost_name ≡ w.distances.ghost_name
@@ -84,11 +64,10 @@ pub record Fits (k : Settings) (n : ℕ) (h : Held) : Type 0 where
 
 -- ---- the search of a round
 
--- What the code's verdict means of a state.
-unfoldable pub next_of : Verdict → State → Next
-next_of GoOn s = go s
-next_of Done s = done s
-next_of (Refused r) s = refuse (number_of r)
+-- What follows a state in which the run has converged, or has not.
+unfoldable pub next_of : Bool → State → Next
+next_of true s = done s
+next_of false s = go s
 
 -- The predictions stand in their regions: so many.
 pub record Predicted (n q : ℕ) (numbers : List ℕ) (floats : List Float) (qs : List Prediction) : Type 0 where
@@ -105,14 +84,21 @@ pub record PointsAt (spots : List Float) (k to : ℕ) (before after : List Float
 abbrev pub points_at : ℕ → ℕ → List Float → List Float
 points_at n k floats = slice (4 * n) (4 * n + 2 * k) floats
 
--- The matcher on points of spots and on the predictions that stand in their regions, at the state h.
-pub record AssociatedTo (k : Settings) (n : ℕ) (points : List Float) (h : Held) (r : Float) (q : ℕ) (before : List ℕ)
-    (floats : List Float) (after : List ℕ) (s : Step) : Type 0 where
+-- A step is that of the definition, from the state h to the one that it leaves, with the matcher on points of spots and on the predictions that stand
+-- in their regions.
+pub record StepAs (k : Settings) (n : ℕ) (points : List Float) (h : Held) (r : Float) (q : ℕ) (before : List ℕ)
+    (floats : List Float) (left : State) (s : Step) : Type 0 where
   pub next : (qs : List Prediction) → Predicted n q before floats qs →
-      next_of s.verdict (held_state n s.held after)
-      ≡ associated (fixed_of k) points h.pose (held_matches h before) (held_cache n h before) r qs
+      next_of s.converged left ≡ associated (fixed_of k) points h.pose (held_matches h before) (held_cache n h before) r qs
   pub comparisons : (qs : List Prediction) → Predicted n q before floats qs → s.comparisons ≡ compared (fixed_of k) points r qs
-  pub fits : Fits k n s.held
+
+-- And so is a refusal. Here and below the definition counts what led to a refusal too, and the code does not: a refused call reports no counts.
+abbrev pub AssociatedTo : Settings → ℕ → List Float → Held → Float → ℕ → List ℕ → List Float → State
+    → Result Step Refusal → Type 0
+AssociatedTo k n points h r q before floats left s =
+    MatchResult s (StepAs k n points h r q before floats left)
+    (λ e. (qs : List Prediction) → Predicted n q before floats qs
+    → refuse (number_of e) ≡ associated (fixed_of k) points h.pose (held_matches h before) (held_cache n h before) r qs)
 
 -- What the search makes of a state comes down to the matcher on the predictions that now stand in their regions.
 pub record LookedTo (k : Settings) (n : ℕ) (directions : List Float) (h : Held) (before : List ℕ) (after : List ℕ)
@@ -136,42 +122,38 @@ pub record LookedTo (k : Settings) (n : ℕ) (directions : List Float) (h : Held
   pub matches : take (2 * n) after ≡ take (2 * n) before
   pub fits : Fits k n r.held
 
--- The code's search of a round, at the state h, is that of the definition.
-pub record SearchedTo (k : Settings) (n : ℕ) (spots directions : List Float) (h : Held) (radius : Float)
-    (before after : List ℕ) (s : Sought) : Type 0 where
-  pub next : next_of s.verdict (held_state n s.held after)
-      ≡ (searched (fixed_of k) spots directions h.pose (held_matches h before) radius (held_cache n h before)).next
-  pub count : s.queries
-      ≡ length
-      (searched (fixed_of k) spots directions h.pose (held_matches h before) radius (held_cache n h before)).queries
-  pub comparisons : s.comparisons
-      ≡ (searched (fixed_of k) spots directions h.pose (held_matches h before) radius (held_cache n h before)).comparisons
-  pub fits : Fits k n s.held
+-- What the code's search found, with the state that it left, is what the definition finds; or it meets the refusal that the definition meets.
+pub record SoughtAs (left : State) (f : Found) (s : Sought) : Type 0 where
+  pub next : next_of s.step.converged left ≡ f.next
+  pub count : s.queries ≡ length f.queries
+  pub comparisons : s.step.comparisons ≡ f.comparisons
+
+abbrev pub SearchedTo : State → Found → Result Sought Refusal → Type 0
+SearchedTo left f s = MatchResult s (SoughtAs left f) (λ e. refuse (number_of e) ≡ f.next)
 
 -- ---- one round, and the loop
 
--- One round of the code, from the state h, is one of the definition.
-pub record RoundTo (k : Settings) (n : ℕ) (spots directions : List Float) (h : Held) (before after : List ℕ)
-    (s : Rounded) : Type 0 where
-  pub next : next_of s.verdict (held_state n s.held after)
-      ≡ (round (fixed_of k) spots directions (held_state n h before)).found.next
-  pub count : s.queries ≡ length (round (fixed_of k) spots directions (held_state n h before)).found.queries
-  pub comparisons : s.comparisons ≡ (round (fixed_of k) spots directions (held_state n h before)).found.comparisons
-  pub passes : s.passes ≡ (round (fixed_of k) spots directions (held_state n h before)).passes
-  pub fits : Fits k n s.held
+-- One round of the code is one of the definition.
+pub record RoundedAs (left : State) (x : Round) (r : Rounded) : Type 0 where
+  pub found : SoughtAs left x.found r.found
+  pub passes : r.passes ≡ x.passes
 
--- How the code's loop ended: with a refusal, or in a state.
-unfoldable pub ending_of : Option Refusal → State → Ending
-ending_of None s = ended s
-ending_of (Some r) s = refused (number_of r)
+abbrev pub RoundTo : State → Round → Result Rounded Refusal → Type 0
+RoundTo left x r = MatchResult r (RoundedAs left x) (λ e. refuse (number_of e) ≡ x.found.next)
 
--- The code's loop, at most so many rounds from the state h, is that of the definition, with its counts.
-pub record RanTo (k : Settings) (n : ℕ) (spots directions : List Float) (most : ℕ) (h : Held) (before after : List ℕ)
-    (r : Ran) : Type 0 where
-  pub ending : ending_of r.refusal (held_state n r.held after)
-      ≡ (loop (fixed_of k) spots directions most (held_state n h before)).ending
-  pub rounds : r.rounds ≡ (loop (fixed_of k) spots directions most (held_state n h before)).rounds
-  pub passes : r.passes ≡ (loop (fixed_of k) spots directions most (held_state n h before)).passes
-  pub count : r.queries ≡ length (loop (fixed_of k) spots directions most (held_state n h before)).queries
-  pub comparisons : r.comparisons ≡ (loop (fixed_of k) spots directions most (held_state n h before)).comparisons
-  pub fits : Fits k n r.held
+-- The counts of a run.
+abbrev pub counts_of : Run → Counts
+counts_of u = record {
+  rounds = u.rounds;
+  passes = u.passes;
+  queries = length u.queries;
+  comparisons = u.comparisons;
+}
+
+-- The code's loop ends as that of the definition, with its counts.
+pub record RanAs (left : State) (u : Run) (c : Counts) : Type 0 where
+  pub ending : ended left ≡ u.ending
+  pub counts : c ≡ counts_of u
+
+abbrev pub RanTo : State → Run → Result Counts Refusal → Type 0
+RanTo left u r = MatchResult r (RanAs left u) (λ e. refused (number_of e) ≡ u.ending)

@@ -22,6 +22,7 @@ pub(crate) fn compute_stats(floats: &mut [f64], n: usize, seen: usize) -> Option
 }
 
 // The matches that a clip leaves, at the front of their list: so many.
+// Stays (form of 01): matches are a flat list, spot then direction; that its length is even is asked here, in `trim`, `begin` and `renamed_into`.
 pub(crate) fn clip_round(residuals: &[f64], matches: &mut [usize], s: Option<MedianSigma>) -> usize
     requires { length matches.old % 2 ≡ 0 }
     ensures { ClippedTo residuals.now s matches.old matches.new result }

@@ -1,15 +1,14 @@
 // How the run begins, and what follows it: the closing clips, the report, and the matches in the result list.
-ghost use Rattle.std.specs.Prelude.{◌≡◌, ◌*◌, ◌%◌, ◌≤◌, length, take};
-ghost use Rattle.entry.specs.Entry.{fixed_of};
+ghost use Rattle.std.specs.Prelude.{◌≡◌, ◌*◌, ◌%◌, ◌≤◌, length};
 ghost use Rattle.lists.specs.Fronted.{fronted};
-ghost use Rattle.wcs_refine.specs.Closing.{most_clips, cleaned};
-ghost use Rattle.wcs_refine.specs.Ending.{Begun, concluded, Answered};
+ghost use Rattle.wcs_refine.specs.Keeping.{state_of, Same};
+ghost use Rattle.wcs_refine.specs.Ending.{Begun, closing_of, Answered};
 
 use crate::WcsRefineResult;
 use crate::cleaning::{Cleaned, clean};
-use crate::course::Course;
 use crate::reporting::{Numbers, report};
-use crate::rounds::Ran;
+use crate::rounds::Counts;
+use crate::working::Working;
 use entry::start_pose;
 use query::Held;
 use refusal::Refusal;
@@ -46,38 +45,36 @@ pub(crate) fn begin(
     }
 }
 
-// From the state that the loop ended in. The first places of floats take the residuals.
+// Stays (no plainer): the counts and the numbers are public fields of the answer itself, and filled in here alone.
+// From the state that the loop ended in. The first places of the floats take the residuals.
 pub(crate) fn finish(
-    course: &Course<'_>,
-    ran: Ran,
-    numbers: &mut [usize],
-    floats: &mut [f64],
+    w: &mut Working<'_>,
+    counts: Counts,
     result_list: &mut [usize],
 ) -> Result<WcsRefineResult, Refusal>
-    requires { (2 * ran.held.used ≤ length numbers.old) × (2 * ran.held.used ≤ length floats.old)
-        × (2 * ran.held.used ≤ length result_list.old) }
-    ensures { Answered
-        (concluded (fixed_of course.now.k) course.now.spots.now course.now.directions.now
-        (cleaned (fixed_of course.now.k) course.now.spots.now course.now.directions.now most_clips
-        ran.held.pose (take (2 * ran.held.used) numbers.old))
-        ran.rounds ran.passes ran.queries ran.comparisons)
-        result_list.old result_list.new result }
+    requires { 2 * w.old.held.used ≤ length result_list.old }
+    ensures { Same w.old w.new
+        × Answered (closing_of w.old.course (state_of w.old) counts) result_list.old result_list.new result }
 {
-    let held = ran.held;
-    let c = clean(course, held.pose, held.used, numbers, floats);
-    let Some(Cleaned { pose, used }) = c else {
-        return Err(Refusal::Unsound);
-    };
+    let course = w.course;
+    let held = w.held;
+    let numbers = &mut *w.numbers;
+    let Cleaned { pose, used } = clean(&course, held.pose, held.used, numbers, w.floats)?;
     let to = 2 * used;
-    let n = report(course, pose, &numbers[0..to], floats);
+    let Numbers { rms, cd, cov } = report(&course, pose, &numbers[0..to], w.floats);
     lay_over(&numbers[0..to], result_list);
-    let Numbers { rms, cd, cov } = n;
+    let Counts {
+        rounds,
+        passes,
+        queries,
+        comparisons,
+    } = counts;
     Ok(WcsRefineResult {
         matches: used,
-        rounds: ran.rounds,
-        passes: ran.passes,
-        queries: ran.queries,
-        comparisons: ran.comparisons,
+        rounds,
+        passes,
+        queries,
+        comparisons,
         pose,
         cd,
         rmse_rad: rms,

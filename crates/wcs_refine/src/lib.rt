@@ -1,10 +1,10 @@
 // The refinement call. Its meaning stands in specs/Call.antt, the theorem about two calls in specs/Unseen.antt.
 #![tactic(auto)]
 
-ghost use Rattle.std.specs.Prelude.{◌≡◌};
-ghost use Rattle.entry.specs.Check.{refusal};
-ghost use Rattle.wcs_refine.specs.Call.{answer};
-ghost use Rattle.wcs_refine.specs.Ending.{lent, Answered};
+ghost use Rattle.std.specs.Prelude.{◌*◌, ◌≤◌, length};
+ghost use Rattle.panel.specs.Points.{within_limit};
+ghost use Rattle.wcs_refine.specs.Keeping.{state_of, Same};
+ghost use Rattle.wcs_refine.specs.Ending.{answer_of, Answered};
 ghost use Rattle.wcs_refine.specs.Returned.{lists, called, Answers};
 
 use course::Course;
@@ -20,8 +20,7 @@ mod rename; // rename.rt: the matches by their directions
 mod cleaning; // cleaning.rt: the closing clips, each with a refit
 mod reporting; // reporting.rt: the numbers that an accepted call reports
 mod course; // course.rt: what a run reads and never changes
-mod working; // working.rt: the lists that a run works in
-mod keeping; // keeping.rt: what a round starts from and leaves
+mod working; // working.rt: what a run works on
 mod looking; // looking.rt: the cone query, unless the cached one serves, and the predictions
 mod associating; // associating.rt: the matcher on the predictions
 mod comparing; // comparing.rt: whether new matches are the present ones
@@ -31,7 +30,7 @@ mod finishing; // finishing.rt: how the run begins, and the closing that follows
 
 // What an accepted call answers. Beside the pose: how many matches stand in the result list, the rounds, fit passes and queries of the run, the
 // most comparisons by which a round put its pairs in order, the matrix and the covariance by rows, and the error.
-#[derive(Clone, Copy)]
+#[derive(Clone, Copy, Default)]
 pub struct WcsRefineResult {
     pub matches: usize,
     pub rounds: usize,
@@ -45,53 +44,18 @@ pub struct WcsRefineResult {
 }
 
 // The run and the closing of a call that passes the checks.
-// Stays (form of 01): the call's lists and numbers as it is given them; what the run reads of them is one `Course` from here on.
-fn refined<'a>(
-    spots: &'a [f64],
-    matches: &[usize],
-    directions: &'a [f32],
-    rotation: [[f32; 3]; 3],
-    scale: f64,
-    mirror: bool,
-    radius: f32,
-    cut: f64,
-    limit: usize,
-    rounds: usize,
+fn refined(
     w: &mut Working<'_>,
+    rounds: usize,
     result_list: &mut [usize],
 ) -> Result<WcsRefineResult, Refusal>
-    requires { refusal (called spots.now matches.now directions.now rotation scale mirror radius cut
-        limit rounds (lent w.old result_list.old)) ≡ 0 }
-    ensures { Answered
-        (answer
-        (called spots.now matches.now directions.now rotation scale mirror radius
-        cut limit rounds (lent w.old result_list.old)))
-        result_list.old result_list.new result }
+    requires { (rounds ≤ 64) × (2 * w.old.held.used ≤ length result_list.old)
+        × (2 * within_limit w.old.course.spots.now w.old.course.k.limit ≤ length result_list.old) }
+    ensures { Same w.old w.new
+        × Answered (answer_of w.old.course rounds (state_of w.old)) result_list.old result_list.new result }
 {
-    let room = spots.len() / SPOT_NUMBERS + matches.len() / 2 + directions.len() / 3;
-    let k = settings_of(
-        spots,
-        directions.len(),
-        scale,
-        mirror,
-        radius,
-        cut,
-        limit,
-        w.distances.len(),
-        w.indices.len(),
-    );
-    let held = finishing::begin(matches, rotation, scale, w.numbers);
-    let course = Course {
-        spots,
-        directions,
-        k,
-        room,
-    };
-    let ran = rounds::run(&course, rounds, held, w);
-    if let Some(refusal) = ran.refusal {
-        return Err(refusal);
-    }
-    finishing::finish(&course, ran, w.numbers, w.floats, result_list)
+    let counts = rounds::run(w, rounds)?;
+    finishing::finish(w, counts, result_list)
 }
 
 // Refines the pose of a rotation from spots (flat, x, y and weight), directions (flat, three components) and starting matches (flat, spot then
@@ -99,6 +63,7 @@ fn refined<'a>(
 // is dropped, everywhere in the run. `numbers` and `floats` are working lists, `distances` and `indices` room for candidate pairs; the matches go to
 // `result_list`.
 // Stays (form of 01): the lists and numbers of a call come flat, each by itself.
+#[tactic(auto, unfolding(entry::specs::Check::refusal, entry::specs::Fixed::fixed, crate::specs::Call::start, entry::specs::Fixed::start_pose))]
 pub fn wcs_refine(
     spots: &[f64],
     matches: &[usize],
@@ -139,21 +104,27 @@ pub fn wcs_refine(
         floats.len(),
         result_list.len(),
     )?;
-    let mut w = Working::new(numbers, floats, distances, indices);
-    let r = refined(
+    let room = spots.len() / SPOT_NUMBERS + matches.len() / 2 + directions.len() / 3;
+    let k = settings_of(
         spots,
-        matches,
-        directions,
-        rotation,
+        directions.len(),
         scale,
         mirror,
         radius,
         cut,
         limit,
-        rounds,
-        &mut w,
-        result_list,
+        distances.len(),
+        indices.len(),
     );
+    let course = Course {
+        spots,
+        directions,
+        k,
+        room,
+    };
+    let held = finishing::begin(matches, rotation, scale, numbers);
+    let mut w = Working::new(course, held, numbers, floats, distances, indices);
+    let r = refined(&mut w, rounds, result_list);
     clear_all(numbers, floats, distances, indices);
     r
 }

@@ -14,7 +14,7 @@ ghost use Rattle.wcs_refine.specs.Cleaning.{covariance_of, report_of};
 use crate::course::Course;
 use fit::{Pose, normal_matrix};
 use project::cd_from_theta;
-use residuals::{NO_RESIDUAL, compute_residuals};
+use residuals::NO_RESIDUAL;
 use rounding::sqrt;
 use solve::covariance_from_normal;
 
@@ -74,14 +74,7 @@ pub(crate) fn report(
         (rows course.now.spots.now course.now.directions.now matches.now) }
 {
     let n = matches.len() / 2;
-    let in_front = compute_residuals(
-        matches,
-        course.directions,
-        course.spots,
-        pose,
-        course.k.cut,
-        floats,
-    );
+    let in_front = course.residuals(matches, pose, floats);
     let sum = sum_squares(&floats[0..n]);
     let rms = root_mean(sum, in_front);
     let cov = covariance(course, pose, matches, sum);

@@ -5,20 +5,17 @@ ghost use Rattle.fit.specs.Rows.{rows};
 ghost use Rattle.passes.specs.Fit.{fit_passes, passes_of};
 ghost use Rattle.wcs_refine.specs.Round.{most_passes};
 ghost use Rattle.wcs_refine.specs.Associate.{adaptive_px};
-ghost use Rattle.wcs_refine.specs.Keeping.{held_matches, Same, Ready, Fits, RoundTo, RanTo};
-ghost use Rattle.wcs_refine.specs.Stepping.{posed, ending, TrimmedTo, RestTo};
+ghost use Rattle.wcs_refine.specs.Keeping.{held_matches, state_of, Same, SearchedTo, RoundTo, RanTo};
+ghost use Rattle.wcs_refine.specs.Stepping.{TrimmedTo, rest_of, round_of, loop_of};
 
 use crate::clipping::{clip_round, compute_stats};
 use crate::course::Course;
-use crate::keeping::{Verdict, with_used};
 use crate::searching::{Sought, search};
 use crate::working::Working;
-use entry::{Settings, radius_px};
+use entry::Settings;
 use fit::Pose;
 use passes::{Passed, fit_passes};
-use query::Held;
 use refusal::Refusal;
-use residuals::compute_residuals;
 use rounding::{max, min};
 use stats::MedianSigma;
 
@@ -34,55 +31,40 @@ struct Trimmed {
     pub radius: f64,
 }
 
+// What a round found, and how many fit passes it made.
 #[derive(Drop)]
 pub(crate) struct Rounded {
-    pub held: Held,
-    pub verdict: Verdict,
+    pub found: Sought,
     pub passes: usize,
-    pub queries: usize,
-    pub comparisons: usize,
 }
 
-// How the loop ended: the state, a refusal if it met one, the counts, and the most comparisons of a round.
-#[derive(Drop)]
-pub(crate) struct Ran {
-    pub held: Held,
-    pub refusal: Option<Refusal>,
+// So many rounds, fit passes and queries, and the most comparisons of a round.
+#[derive(Clone, Copy)]
+pub(crate) struct Counts {
     pub rounds: usize,
     pub passes: usize,
     pub queries: usize,
     pub comparisons: usize,
 }
 
+// Before the first round.
+const NONE: Counts = Counts {
+    rounds: 0,
+    passes: 0,
+    queries: 0,
+    comparisons: 0,
+};
+
 // The matcher's radius; the call's own where there are no statistics.
 fn adaptive_px(k: Settings, s: Option<MedianSigma>) -> f64
     ensures { result ≡ adaptive_px (fixed_of k) s }
 {
-    let most = radius_px(k);
+    let most = k.radius_px();
     let Some(m) = s else {
         return most;
     };
     let wide = RADIUS_SIGMAS * m.sigma / k.scale;
     min(max(wide, LEAST_RADIUS_PX), most)
-}
-
-// The state at another pose.
-fn pose_at(h: Held, pose: Pose) -> Held
-    ensures { result ≡ posed h pose }
-{
-    Held { pose, ..h }
-}
-
-// How the rounds end here, if they do: converged, or with a refusal.
-#[tactic(auto, unfolding(crate::specs::Stepping::ending))]
-fn ending(v: Verdict) -> Option<Option<Refusal>>
-    ensures { result ≡ ending v }
-{
-    match v {
-        Verdict::GoOn => None,
-        Verdict::Done => Some(None),
-        Verdict::Refused(r) => Some(Some(r)),
-    }
 }
 
 // Phases B and C: the residuals and their statistics, and the clip. The matches that are left stand at the front of their list.
@@ -92,14 +74,7 @@ fn trim(course: &Course<'_>, pose: Pose, matches: &mut [usize], floats: &mut [f6
         matches.new result }
 {
     let n = matches.len() / 2;
-    let in_front = compute_residuals(
-        matches,
-        course.directions,
-        course.spots,
-        pose,
-        course.k.cut,
-        floats,
-    );
+    let in_front = course.residuals(matches, pose, floats);
     let s = compute_stats(floats, n, in_front);
     let used = clip_round(&floats[0..n], matches, s);
     let radius = adaptive_px(course.k, s);
@@ -107,98 +82,72 @@ fn trim(course: &Course<'_>, pose: Pose, matches: &mut [usize], floats: &mut [f6
 }
 
 // Phases B to D, at the pose that the passes left.
-fn renew(course: &Course<'_>, held: Held, w: &mut Working<'_>) -> Sought
-    requires { Ready course.now w.old
-        × Fits course.now.k course.now.room held }
+fn renew(w: &mut Working<'_>) -> Result<Sought, Refusal>
     ensures { Same w.old w.new
-        × RestTo course.now.k course.now.room course.now.spots.now course.now.directions.now held w.old.numbers.now w.new.numbers.now result }
+        × SearchedTo (state_of w.new) (rest_of w.old.course (state_of w.old)) result }
 {
-    let to = 2 * held.used;
-    let t = trim(course, held.pose, &mut w.numbers[0..to], w.floats);
-    let kept = with_used(held, t.used);
-    search(course, kept, t.radius, w)
+    let course = w.course;
+    let pose = w.held.pose;
+    let to = 2 * w.held.used;
+    let t = trim(&course, pose, &mut w.numbers[0..to], w.floats);
+    w.held.used = t.used;
+    search(w, t.radius)
 }
 
 // Phase A: the passes of the fit, on the matches of the state.
-fn fit_held(course: &Course<'_>, held: Held, w: &Working<'_>) -> Passed
-    requires { 2 * held.used ≤ length w.now.numbers.now }
+fn fit_held(w: &Working<'_>) -> Passed
     ensures { passes_of result
-        ≡ fit_passes most_passes course.now.k.cut
-        (rows course.now.spots.now course.now.directions.now (held_matches held w.now.numbers.now))
-        held.pose }
+        ≡ fit_passes most_passes w.now.course.k.cut
+        (rows w.now.course.spots.now w.now.course.directions.now (held_matches w.now.held w.now.numbers.now))
+        w.now.held.pose }
 {
-    let to = 2 * held.used;
+    let to = 2 * w.held.used;
     fit_passes(
         &w.numbers[0..to],
-        course.directions,
-        course.spots,
-        held.pose,
-        course.k.cut,
+        w.course.directions,
+        w.course.spots,
+        w.held.pose,
+        w.course.k.cut,
     )
 }
 
 // One round on any state.
-pub(crate) fn one_round(course: &Course<'_>, held: Held, w: &mut Working<'_>) -> Rounded
-    requires { Ready course.now w.old
-        × Fits course.now.k course.now.room held }
+// Stays (no plainer): the error of the passes is their own, with the pose that left its bounds; here it becomes the call's, 12.
+fn one_round(w: &mut Working<'_>) -> Result<Rounded, Refusal>
     ensures { Same w.old w.new
-        × RoundTo course.now.k course.now.room course.now.spots.now course.now.directions.now held w.old.numbers.now w.new.numbers.now result }
+        × RoundTo (state_of w.new) (round_of w.old.course (state_of w.old)) result }
 {
-    let f = fit_held(course, held, w);
+    let f = fit_held(w);
     let Ok(fitted) = f.end else {
-        return Rounded {
-            held,
-            verdict: Verdict::Refused(Refusal::Unsound),
-            passes: f.passes,
-            queries: 0,
-            comparisons: 0,
-        };
+        return Err(Refusal::Unsound);
     };
-    let h = pose_at(held, fitted);
-    let s = renew(course, h, w);
-    Rounded {
-        held: s.held,
-        verdict: s.verdict,
+    w.held.pose = fitted;
+    let found = renew(w)?;
+    Ok(Rounded {
+        found,
         passes: f.passes,
-        queries: s.queries,
-        comparisons: s.comparisons,
-    }
+    })
 }
 
 // At most so many rounds, until one converges or is refused.
-pub(crate) fn run(course: &Course<'_>, rounds: usize, held: Held, w: &mut Working<'_>) -> Ran
-    requires { Ready course.now w.old
-        × Fits course.now.k course.now.room held × (rounds ≤ 64) }
+// Stays (no plainer): the rounds are counted in `Counts` with the rest, so that each way out answers the one value.
+pub(crate) fn run(w: &mut Working<'_>, rounds: usize) -> Result<Counts, Refusal>
+    requires { rounds ≤ 64 }
     ensures { Same w.old w.new
-        × RanTo course.now.k course.now.room course.now.spots.now course.now.directions.now rounds held w.old.numbers.now w.new.numbers.now result }
+        × RanTo (state_of w.new) (loop_of w.old.course rounds (state_of w.old)) result }
 {
-    let mut h = held;
-    let mut passes: usize = 0;
-    let mut queries: usize = 0;
-    let mut comparisons: usize = 0;
-    for i in 0..rounds {
-        let s = one_round(course, h, w);
-        h = s.held;
-        passes += s.passes;
-        queries += s.queries;
-        comparisons = comparisons.max(s.comparisons);
-        if let Some(refusal) = ending(s.verdict) {
-            return Ran {
-                held: h,
-                refusal,
-                rounds: i + 1,
-                passes,
-                queries,
-                comparisons,
-            };
+    let mut counts = NONE;
+    for _turn in 0..rounds {
+        let Rounded { found, passes } = one_round(w)?;
+        counts = Counts {
+            rounds: counts.rounds + 1,
+            passes: counts.passes + passes,
+            queries: counts.queries + found.queries,
+            comparisons: counts.comparisons.max(found.step.comparisons),
+        };
+        if found.step.converged {
+            return Ok(counts);
         }
     }
-    Ran {
-        held: h,
-        refusal: None,
-        rounds,
-        passes,
-        queries,
-        comparisons,
-    }
+    Ok(counts)
 }

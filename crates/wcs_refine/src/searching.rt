@@ -1,34 +1,28 @@
 // A round's search: predictions, then the matcher.
-ghost use Rattle.wcs_refine.specs.Keeping.{Same, Ready, Fits, SearchedTo};
+ghost use Rattle.wcs_refine.specs.Keeping.{state_of, Same, SearchedTo};
+ghost use Rattle.wcs_refine.specs.Stepping.{searched_of};
 
-use crate::associating::associate_spots;
-use crate::course::Course;
-use crate::keeping::Verdict;
+use crate::associating::{Step, associate_spots};
 use crate::looking::look;
 use crate::working::Working;
-use query::Held;
+use refusal::Refusal;
 
+// The matcher's step, and how many queries were made before it: one or none.
 #[derive(Drop)]
 pub(crate) struct Sought {
-    pub held: Held,
-    pub verdict: Verdict,
+    pub step: Step,
     pub queries: usize,
-    pub comparisons: usize,
 }
 
-pub(crate) fn search(course: &Course<'_>, held: Held, r: f64, w: &mut Working<'_>) -> Sought
-    requires { Ready course.now w.old
-        × Fits course.now.k course.now.room held }
+pub(crate) fn search(w: &mut Working<'_>, r: f64) -> Result<Sought, Refusal>
     ensures { Same w.old w.new
-        × SearchedTo course.now.k course.now.room course.now.spots.now course.now.directions.now held r
-        w.old.numbers.now w.new.numbers.now result }
+        × SearchedTo (state_of w.new) (searched_of w.old.course r (state_of w.old)) result }
 {
-    let l = look(course, held, w.numbers, w.floats);
-    let s = associate_spots(course, l.held, r, l.predicted, w);
-    Sought {
-        held: s.held,
-        verdict: s.verdict,
+    let l = look(w);
+    w.held = l.held;
+    let step = associate_spots(w, r, l.predicted)?;
+    Ok(Sought {
+        step,
         queries: l.queries,
-        comparisons: s.comparisons,
-    }
+    })
 }

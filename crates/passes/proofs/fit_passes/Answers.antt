@@ -1,14 +1,11 @@
 -- `passes::fit_passes` meets its contract. The invariant: the passes that are left, after those made, give the whole. Assumes nothing.
 use mathlib.Core.Path.{sym, ◌∙◌}
 use native.Mathlib.Omega.{arith}
-use Rattle.passes.proofs.PassSteps.{few_rows, enough_rows, none_yet, too_few, pass_fails, pass_unsound, pass_rests, pass_on, pass_ends}
+use Rattle.passes.proofs.PassSteps.{few_rows, enough_rows, too_few, pass_fails, pass_unsound, pass_rests, pass_on, pass_ends}
 use Rattle.passes.proofs.fit_passes.Goals as goal
 
 pub returns-then-matches-lt3 : goal.returns-then-matches-lt3
 returns-then-matches-lt3 c = too_few _ _ _ (few_rows _ _ _ c.if-matches-lt3.true)
-
-pub loop-i-init : goal.loop-i-init
-loop-i-init c = none_yet _
 
 pub returns-in_default : goal.returns-in_default
 returns-in_default c =

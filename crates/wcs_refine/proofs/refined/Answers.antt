@@ -1,76 +1,47 @@
--- `refined` meets its contract: the start, the run and the closing, in turn. Assumes nothing.
-use Rattle.std.proofs.Common.{◌≡◌, refl, arith}
-use Rattle.entry.specs.Arguments.{total}
-use Rattle.entry.specs.Fixed.{fixed, start_pose}
-use Rattle.entry.specs.Entry.{fixed_of}
-use Rattle.wcs_refine.specs.Call.{start}
-use Rattle.wcs_refine.specs.Returned.{called}
-use Rattle.wcs_refine.specs.Ending.{lent}
-use Rattle.wcs_refine.proofs.CallEnds.{begin_fits, count_fits, room_fits, run_fits, refused_answer, ended_fits, ended_answer}
+-- `refined` meets its contract: the run, and the closing of the state that it leaves. Assumes nothing.
+use Rattle.std.proofs.Common.{◌*◌, ◌≤◌, length, arith, length-take-le}
+use Rattle.wcs_refine.specs.Keeping.{state_of}
+use Rattle.wcs_refine.specs.Ending.{answer_of, Answered}
+use Rattle.wcs_refine.specs.declared.working.Working.{Working}
+use Rattle.wcs_refine.proofs.Along.{hands_on}
+use Rattle.wcs_refine.proofs.Lent.{same_on}
+use Rattle.wcs_refine.proofs.CallEnds.{run_refused, run_ended, run_leaves}
 use Rattle.wcs_refine.proofs.refined.Goals as goal
 
-pub begin-held-requires : goal.begin-held-requires
-begin-held-requires c =
-    let a = c.args in
-    let q = called a.spots.now a.matches.now a.directions.now a.rotation a.scale a.mirror a.radius a.cut a.limit a.rounds (lent a.w.now a.result_list.now) in
-    let lawful = c.requires in
-    begin_fits q lawful
+-- the matches of a state
+many : (w : Working) → length (state_of w).matches ≤ 2 * w.held.used
+many w = omega (arith, length-take-le (2 * w.held.used) w.numbers.now (omega (arith, w.used, w.many)))
 
-pub invariant_of-course : goal.invariant_of-course
-unfolding fixed
-invariant_of-course c =
-    let a = c.args in
-    let q = called a.spots.now a.matches.now a.directions.now a.rotation a.scale a.mirror a.radius a.cut a.limit a.rounds (lent a.w.now a.result_list.now) in
-    let same : fixed_of c.settings_of-k.result ≡ fixed q = c.settings_of-k.ensures in
-    record { count = count_fits q c.settings_of-k.result same; fits = room_fits q c.settings_of-k.result same }
+all : (w : Working) → 2 * w.held.used ≤ length (state_of w).matches
+all w = omega (arith, length-take-le (2 * w.held.used) w.numbers.now (omega (arith, w.used, w.many)))
 
-pub run-ran-requires : goal.run-ran-requires
-unfolding fixed
-run-ran-requires c =
+pub returns-in_err-counts : goal.returns-in_err-counts
+returns-in_err-counts c =
     let a = c.args in
-    let q = called a.spots.now a.matches.now a.directions.now a.rotation a.scale a.mirror a.radius a.cut a.limit a.rounds (lent a.w.now a.result_list.now) in
-    let lawful = c.requires in
-    let same : fixed_of c.settings_of-k.result ≡ fixed q = c.settings_of-k.ensures in
-    let h = c.begin-held.result in
-    let begun = c.begin-held.ensures in
-    run_fits q lawful _ same refl h begun.used begun.cached _ (omega (arith, c.begin-held.auto)) refl refl refl
-
-pub returns-in-Some : goal.returns-in-Some
-unfolding fixed start start_pose
-returns-in-Some c =
-    let a = c.args in
-    let q = called a.spots.now a.matches.now a.directions.now a.rotation a.scale a.mirror a.radius a.cut a.limit a.rounds (lent a.w.now a.result_list.now) in
-    let lawful = c.requires in
-    let k = c.settings_of-k.result in
-    let same : fixed_of k ≡ fixed q = c.settings_of-k.ensures in
-    let h = c.begin-held.result in
-    let begun = c.begin-held.ensures in
-    let n = total q in
-    refused_answer q lawful k n h _ _ c.run-ran.result same (begun.state n) c.run-ran.ensures.1 c.in-Some.is a.result_list.now
+    let w = a.w.now in
+    let ran = c.in_err-counts.ensures in (
+      ran.0,
+      hands_on (Answered (answer_of w.course a.rounds (state_of w)) a.result_list.now a.result_list.now) _ c.from_residual.ensures.1
+          (run_refused w.course a.rounds (state_of w) (state_of c.run.new.w) _ ran.1 a.result_list.now),
+    )
 
 pub finish-requires : goal.finish-requires
-unfolding fixed start start_pose
 finish-requires c =
     let a = c.args in
-    let q = called a.spots.now a.matches.now a.directions.now a.rotation a.scale a.mirror a.radius a.cut a.limit a.rounds (lent a.w.now a.result_list.now) in
-    let lawful = c.requires in
-    let k = c.settings_of-k.result in
-    let same : fixed_of k ≡ fixed q = c.settings_of-k.ensures in
-    let h = c.begin-held.result in
-    let begun = c.begin-held.ensures in
-    let n = total q in
-    ended_fits q lawful k n h _ _ c.run-ran.result same (begun.state n) c.run-ran.ensures.1 c.in_default.is refl
-    (omega (arith, c.begin-held.auto, c.run-ran.ensures.0.numbers_long)) _ c.run-ran.ensures.0.floats_long
+    let w = a.w.now in
+    let ran = c.in_ok-counts.ensures in
+    omega (
+      arith,
+      all c.run.new.w,
+      run_leaves w.course a.rounds (state_of w) (state_of c.run.new.w) _ ran.1 (length a.result_list.now) c.requires.2 (omega (arith, many w, c.requires.1)),
+    )
 
 pub returns : goal.returns
-unfolding fixed start start_pose
 returns c =
     let a = c.args in
-    let q = called a.spots.now a.matches.now a.directions.now a.rotation a.scale a.mirror a.radius a.cut a.limit a.rounds (lent a.w.now a.result_list.now) in
-    let lawful = c.requires in
-    let k = c.settings_of-k.result in
-    let same : fixed_of k ≡ fixed q = c.settings_of-k.ensures in
-    let h = c.begin-held.result in
-    let begun = c.begin-held.ensures in
-    let n = total q in
-    ended_answer q lawful k n h _ _ c.run-ran.result same (begun.state n) c.run-ran.ensures.1 c.in_default.is c.finish.ensures
+    let w = a.w.now in
+    let ran = c.in_ok-counts.ensures in
+    let done = c.finish.ensures in (
+      same_on ran.0 done.0,
+      run_ended w.course a.rounds (state_of w) (state_of c.run.new.w) _ ran.1 (rw ran.0.course at done.1),
+    )

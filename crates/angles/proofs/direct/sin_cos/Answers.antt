@@ -3,10 +3,6 @@ use lib.Ieee.{div, of_bits}
 use Rattle.angles.specs.SinCos.{sin_cos}
 use Rattle.angles.proofs.direct.sin_cos.Goals as goal
 
-pub returns-then-abs : goal.returns-then-abs
-unfolding sin_cos
-returns-then-abs c = rw (← c.abs.ensures, c.if-abs.true) c.in_reach.ensures
-
 pub returns-else-abs : goal.returns-else-abs
 unfolding sin_cos div of_bits
 returns-else-abs c = rw (← c.abs.ensures, c.if-abs.false)

@@ -1,9 +1,6 @@
 use mathlib.Core.Path.{◌∙◌, sym, ap}
-use Rattle.entry.proofs.ListTests.{failed, passed, spots_start, spots_next, spots_stop, spots_done}
+use Rattle.entry.proofs.ListTests.{failed, passed, spots_next, spots_stop, spots_done}
 use Rattle.entry.proofs.refusals.every_spot.Goals as goal
-
-pub loop-i-init : goal.loop-i-init
-loop-i-init g c = λ p h. spots_start p _ _
 
 pub returns-then-not-test : goal.returns-then-not-test
 returns-then-not-test g c = λ p h.

@@ -1,4 +1,3 @@
-use native.Mathlib.Nat.{sub-zero}
 use Rattle.std.proofs.Common.{◌<◌, ◌≤◌, ◌/◌, [], length, ap, ◌∙◌, arith}
 use Rattle.panel.specs.Spots.{spot_at}
 use Rattle.fit.specs.Normal.{with_rows, no_matches}
@@ -6,13 +5,6 @@ use Rattle.fit.specs.Rows.{rows, direction_at}
 use Rattle.fit.proofs.Lookup.{pair_spot, pair_direction}
 use Rattle.fit.proofs.Summing.{sum_next, sum_done}
 use Rattle.fit.proofs.normal.summed.Goals as goal
-
-pub loop-spot-init : goal.loop-spot-init
-unfolding rows no_matches
-loop-spot-init g c = record {
-  counts = rw c.no_matches-s.ensures (omega arith);
-  left = λ fitting h. rw (c.no_matches-s.ensures, sub-zero);
-}
 
 pub loop-spot-preserved : goal.loop-spot-preserved
 loop-spot-preserved g c =

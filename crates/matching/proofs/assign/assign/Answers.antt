@@ -4,7 +4,7 @@ use mathlib.Core.List.{List}
 use Prim.Native.Nat.{ℕ, suc, ◌+◌, ◌-◌, ◌*◌, ◌<◌, ◌≤◌}
 use native.Mathlib.Omega.{arith}
 use lib.ListN.{get_or}
-use Rattle.matching.specs.Layout.{Taking, taking, offered, offers}
+use Rattle.matching.specs.Layout.{marks, Taking, taking, offered, offers}
 use Rattle.matching.proofs.assign.assign.Goals as goal
 
 -- one pair more was offered
@@ -22,30 +22,20 @@ ended np marked ix k e s end h inv =
     let p : e - k ≡ 0 = omega arith in
     rw p at inv
 
-pub loop-k-init : goal.loop-k-init
-loop-k-init c =
-    let a = c.args in
-    let e : a.from + a.m - a.from ≡ a.m = omega arith in
-    (omega arith, rw e)
-
 pub offer-t-requires : goal.offer-t-requires
 offer-t-requires c =
     let l = c.loop-k in
     let a = c.args in
-    let e : a.from + (l.k - a.from) ≡ l.k = omega arith in
-    (rw e at (c.requires.2 (l.k - a.from) (omega arith)), omega (arith, l.invariant.0))
+    let from = c.begin-from.result in
+    let e : from + (l.k - from) ≡ l.k = omega arith in
+    (rw (← c.begin-from.ensures.0, e) at (c.requires.1 (l.k - from) (omega arith)), omega (arith, l.invariant.0, a.n.few, a.c.now.few, a.c.now.fits, c.well_formed))
 
 pub loop-k-preserved : goal.loop-k-preserved
 loop-k-preserved c =
     let l = c.loop-k in
     let r = c.offer-t in
-    let a = c.args in (
-      omega (arith, r.ensures.0, l.invariant.0),
-      one_more a.np a.marked a.c.now.indices.now l.k (a.from + a.m) (taking l.t l.work) (taking r.result r.new.work) _ c.loop-k-test.true l.invariant.1 r.ensures.1,
-    )
-
-pub returns : goal.returns
-returns c =
-    let l = c.loop-k in
     let a = c.args in
-    ended a.np a.marked a.c.now.indices.now l.k (a.from + a.m) _ _ c.loop-k-test.false l.invariant.1
+    let end = c.begin-from.result + a.c.now.n in (
+      omega (arith, r.ensures.0, l.invariant.0),
+      one_more a.n.spots (marks a.n) a.c.now.indices.now l.k end (taking l.t l.work) (taking r.result r.new.work) _ c.loop-k-test.true l.invariant.1 r.ensures.1,
+    )

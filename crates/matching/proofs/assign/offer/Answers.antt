@@ -5,7 +5,7 @@ use Prim.Native.Nat.{ℕ, ◌+◌, ◌*◌}
 use native.Mathlib.Omega.{arith}
 use borrow.Author.Tests.{eq-eqb, ne_eqb}
 use lib.ListN.{get_or, set}
-use Rattle.matching.specs.Layout.{taking, offered}
+use Rattle.matching.specs.Layout.{marks, taking, offered}
 use Rattle.matching.proofs.assign.offer.Goals as goal
 
 module _ (np marked t : ℕ) (w : List ℕ) (a b : ℕ) where
@@ -25,15 +25,15 @@ module _ (np marked t : ℕ) (w : List ℕ) (a b : ℕ) where
 pub returns-then-number_at-eq0-2 : goal.returns-then-number_at-eq0-2
 returns-then-number_at-eq0-2 c = (
   omega arith,
-  rw (c.put-then-number_at-eq0-2-3.ensures, c.put-then-number_at-eq0-2-2.ensures, c.put-then-number_at-eq0-2.ensures, c.put.ensures)
-      (both_free c.args.np c.args.marked c.args.t c.args.work.now c.args.spot c.args.prediction
+  rw (c.put-then-number_at-eq0-2-3.ensures, c.put-then-number_at-eq0-2-2.ensures, c.put-then-number_at-eq0-2.ensures, c.put.ensures, c.marks.ensures, c.marks-then-number_at-eq0-2.ensures)
+      (both_free c.args.n.spots (marks c.args.n) c.args.t c.args.work.now c.args.spot c.args.prediction
       (sym c.number_at.ensures ∙ c.if-number_at-eq0.true) (sym c.number_at-then-number_at-eq0.ensures ∙ c.if-number_at-eq0-2.true)),
 )
 
 pub returns-else-number_at-eq0-2 : goal.returns-else-number_at-eq0-2
 returns-else-number_at-eq0-2 c = (
   omega arith,
-  second_marked c.args.np c.args.marked c.args.t c.args.work.now c.args.spot c.args.prediction
+  second_marked c.args.n.spots (marks c.args.n) c.args.t c.args.work.now c.args.spot c.args.prediction
       (sym c.number_at.ensures ∙ c.if-number_at-eq0.true)
       (λ q. c.if-number_at-eq0-2.false (c.number_at-then-number_at-eq0.ensures ∙ q)),
 )
@@ -41,6 +41,6 @@ returns-else-number_at-eq0-2 c = (
 pub returns-else-number_at-eq0 : goal.returns-else-number_at-eq0
 returns-else-number_at-eq0 c = (
   omega arith,
-  first_marked c.args.np c.args.marked c.args.t c.args.work.now c.args.spot c.args.prediction
+  first_marked c.args.n.spots (marks c.args.n) c.args.t c.args.work.now c.args.spot c.args.prediction
       (λ q. c.if-number_at-eq0.false (c.number_at.ensures ∙ q)),
 )

@@ -2,7 +2,7 @@
 use Rattle.std.proofs.Common.{◌≡◌, ℕ, ◌-◌, ◌≤◌, List, [], arith}
 use lib.Ieee.{Float}
 use Rattle.pairs.specs.Pairs.{pairs_from}
-use Rattle.pairs.proofs.Pushing.{begun, ended, going_on, gone_full, pairs_spot}
+use Rattle.pairs.proofs.Pushing.{begun, ended, going_on, gone_full, pairs_spot, all_pairs}
 use Rattle.pairs.proofs.pairs.collect.Goals as goal
 
 none_left : (r2 : Float) (points predicted : List Float) (i n : ℕ) → n ≤ i → pairs_from r2 points predicted i (n - i) ≡ []
@@ -15,19 +15,19 @@ pub loop-i-init : goal.loop-i-init
 loop-i-init c =
     let s = c.args.s in
     let e : s.np - 0 ≡ s.np = omega arith in
-    begun (omega arith) (rw e)
+    begun (rw (e, all_pairs s.points.now s.np s.predicted.now s.radius_sq s.fits))
 
 pub loop-i-preserved : goal.loop-i-preserved
 loop-i-preserved c =
     let s = c.args.s in
     going_on _ _ c.loop-i.invariant (pairs_spot s.radius_sq s.points.now s.predicted.now s.np c.loop-i.i c.loop-i-test.true)
-    c.collect_spot.ensures c.in_ok-m.was
+    c.collect_spot.ensures c.in_ok-collect_spot.was
 
-pub returns-in_err-m : goal.returns-in_err-m
-returns-in_err-m c =
+pub returns-in_err-collect_spot : goal.returns-in_err-collect_spot
+returns-in_err-collect_spot c =
     let s = c.args.s in
     gone_full _ _ c.loop-i.invariant (pairs_spot s.radius_sq s.points.now s.predicted.now s.np c.loop-i.i c.loop-i-test.true)
-    c.collect_spot.ensures c.in_err-m.was c.from_residual.ensures
+    c.collect_spot.ensures c.in_err-collect_spot.was c.from_residual.ensures
 
 pub returns : goal.returns
 returns c =

@@ -1,8 +1,8 @@
 -- A spot's pairs, pushed prediction by prediction.
-use Rattle.std.proofs.Common.{◌≡◌, ℕ, ◌-◌, ◌/◌, ◌≤◌, List, [], length, arith}
+use Rattle.std.proofs.Common.{◌≡◌, ℕ, ◌-◌, ◌≤◌, List, [], arith}
 use lib.Ieee.{Float}
 use Rattle.pairs.specs.Pairs.{Point, point_at, squared, pairs_of}
-use Rattle.pairs.proofs.Pushing.{begun, ended, going_on, gone_full, pairs_next}
+use Rattle.pairs.proofs.Pushing.{ended, going_on, gone_full, pairs_next}
 use Rattle.pairs.proofs.pairs.collect_spot.Goals as goal
 
 none_left : (r2 : Float) (predicted : List Float) (spot : ℕ) (p : Point) (j n : ℕ) → n ≤ j → pairs_of r2 predicted spot p j (n - j) ≡ []
@@ -11,25 +11,19 @@ none_left r2 predicted spot p j n h =
     let e : n - j ≡ 0 = omega arith in
     rw e
 
-pub loop-j-init : goal.loop-j-init
-loop-j-init c =
-    let n = length c.args.s.predicted.now / 2 in
-    let e : n - 0 ≡ n = omega arith in
-    begun c.requires.1 (rw e)
-
 pub loop-j-preserved : goal.loop-j-preserved
 unfolding squared point_at
 loop-j-preserved c =
     let s = c.args.s in
     going_on _ _ c.loop-j.invariant (pairs_next s.radius_sq s.predicted.now c.args.i (point_at s.points.now c.args.i) _ c.loop-j.j c.loop-j-test.true)
-    c.try_pair.ensures c.in_ok-k.was
+    c.try_pair.ensures c.in_ok-try_pair.was
 
-pub returns-in_err-k : goal.returns-in_err-k
+pub returns-in_err-try_pair : goal.returns-in_err-try_pair
 unfolding squared point_at
-returns-in_err-k c =
+returns-in_err-try_pair c =
     let s = c.args.s in
     gone_full _ _ c.loop-j.invariant (pairs_next s.radius_sq s.predicted.now c.args.i (point_at s.points.now c.args.i) _ c.loop-j.j c.loop-j-test.true)
-    c.try_pair.ensures c.in_err-k.was c.from_residual.ensures
+    c.try_pair.ensures c.in_err-try_pair.was c.from_residual.ensures
 
 pub returns : goal.returns
 returns c =

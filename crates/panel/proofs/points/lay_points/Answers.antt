@@ -1,11 +1,6 @@
-use Rattle.std.proofs.Common.{rules, refl}
-use Rattle.panel.specs.Points.{coordinates}
+use Rattle.std.proofs.Common.{rules}
 use Rattle.panel.proofs.Laying.{lay_next}
 use Rattle.panel.proofs.points.lay_points.Goals as goal
-
-pub loop-i-init : goal.loop-i-init
-unfolding coordinates
-loop-i-init c = (refl, refl)
 
 pub loop-i-preserved : goal.loop-i-preserved
 loop-i-preserved c =

@@ -6,4 +6,4 @@ use Rattle.project.proofs.project.away_from.Goals as goal
 
 pub returns : goal.returns
 unfolding away_from sin cos neg of_bits
-returns c = rw (c.asin.ensures, c.clamp-sin_dec.ensures, c.atan2-turn.ensures, c.sin_cos-sin_c.ensures, c.sin_cos-sin_dec0.ensures)
+returns c = rw (c.asin.ensures, c.clamp-sin_dec.ensures, c.atan2-turn.ensures, c.sin_cos-t.ensures, c.sin_cos-d0.ensures)

@@ -10,8 +10,7 @@ use Rattle.fit.specs.Rows.{direction_at}
 use Rattle.solve.specs.Vector.{at}
 use Rattle.query.specs.Query.{dot32, scanned}
 use Rattle.query.specs.Listing.{Fronted}
-use Rattle.query.proofs.Listed.{Writing, begin, onward, front_push, front_many, front_whole, scan_next, scan_not, scan_none}
-use borrow.Author.Rules.{rules}
+use Rattle.query.proofs.Listed.{Writing, onward, front_push, front_many, front_whole, scan_next, scan_not, scan_none}
 use Rattle.query.proofs.scan.scan_into.Goals as goal
 use Rattle.query.proofs.scan.scan_into.Goals.{then-least-d, else-least-d}
 
@@ -46,12 +45,6 @@ unfolding scanned dot32
 by_parts ds axis least j zero = refl
 by_parts ds axis least j (suc n) = ap (λ (more : List ℕ). cond (le least (dot32 axis (direction_at ds j))) (j ∷ more) more) (by_parts ds axis least (suc j) n)
 
-pub loop-j-init : goal.loop-j-init
-loop-j-init c =
-    let n = c.min-n.result in
-    let e : n - 0 ≡ n = omega arith in
-    (search rules, omega (arith, c.min-n.ensures), omega (arith, c.min-n.ensures), rw e (begin 0 _ _))
-
 pub loop-j-preserved : goal.loop-j-preserved
 unfolding dot32 direction_at
 loop-j-preserved c =
@@ -63,11 +56,3 @@ loop-j-preserved c =
       | then-least-d w ↦ rw (w.out-is, w.k-is) (took a.directions.now a.least a.out.now n (at a.axis 0) (at a.axis 1) (at a.axis 2) l.out l.k l.j l.invariant h w.if-least-d.true)
       | else-least-d w ↦ rw (w.out-is, w.k-is) (passed a.directions.now a.least a.out.now n (at a.axis 0) (at a.axis 1) (at a.axis 2) l.out l.k l.j l.invariant h w.if-least-d.false)
     ]
-
-pub returns : goal.returns
-returns c =
-    let a = c.args in
-    let n = c.min-n.result in
-    let l = c.loop-j in
-    rw (← c.min-n.ensures, ← by_parts a.directions.now a.axis a.least 0 n)
-    (ended a.directions.now a.least a.out.now n (at a.axis 0) (at a.axis 1) (at a.axis 2) l.out l.k l.j l.invariant l.auto.j-end (search rules))

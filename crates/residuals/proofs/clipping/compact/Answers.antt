@@ -1,17 +1,16 @@
 -- `residuals::clipping::compact` meets its contract. The invariant: the first k places are those kept so far, with those that are left they are all, and
 -- the places from k on are as they came. Assumes nothing.
-use mathlib.Core.Path.{◌≡◌, refl, sym, ap, ◌∙◌}
+use mathlib.Core.Path.{◌≡◌, sym, ap, ◌∙◌}
 use mathlib.Core.Bool.{true, false}
 use mathlib.Core.List.{List, ◌++◌, append_assoc, append-nil}
 use Prim.Native.Nat.{ℕ, ◌+◌, ◌*◌, ◌/◌, ◌-◌, ◌≤◌, ◌<◌}
 use native.Mathlib.Omega.{arith}
-use lib.Ieee.{Float, nan, div, of_bits}
+use lib.Ieee.{Float, nan}
 use lib.ListN.{length, get_or, set, take, drop, length-set}
 use Rattle.residuals.specs.Residual.{keeps, kept_from}
-use Rattle.residuals.proofs.Kept.{tested, kept_next, kept_not, kept_none, unwritten, pair_front, pair_back, front_done}
-use borrow.Author.Rules.{rules}
+use Rattle.residuals.proofs.Kept.{kept_next, kept_not, kept_none, unwritten, pair_front, pair_back, front_done}
 use Rattle.residuals.proofs.clipping.compact.Goals as goal
-use Rattle.residuals.proofs.clipping.compact.Goals.{then-keeps, else-keeps}
+use Rattle.residuals.proofs.clipping.compact.Goals.{then-kept_at, else-kept_at}
 
 -- what the loop keeps, of the residuals rs and the matches o: with i of them passed and k places kept, m is as it stands
 abbrev Stands : Float → List Float → List ℕ → List ℕ → ℕ → ℕ → Type 0
@@ -43,17 +42,7 @@ done t rs o m k i inv b h =
     front_done m o k inv.2 (omega arith)
     (sym (append-nil (take k m)) ∙ ap (λ (z : List ℕ). take k m ++ z) (sym (kept_none t rs o (length o / 2) i h)) ∙ inv.3)
 
-pub loop-i-init : goal.loop-i-init
-loop-i-init c =
-    let a = c.args in
-    let e : length a.matches.now / 2 - 0 ≡ length a.matches.now / 2 = omega arith in
-    (search rules, search rules, refl, rw e)
-
-pub bounds-matches-k-then-keeps : goal.bounds-matches-k-then-keeps
-bounds-matches-k-then-keeps c = simp length-set (omega arith)
-
 pub loop-i-preserved : goal.loop-i-preserved
-unfolding div of_bits
 loop-i-preserved c =
     let a = c.args in
     let l = c.loop-i in
@@ -61,9 +50,9 @@ loop-i-preserved c =
     let t = a.threshold in
     let rs = a.residuals.now in
     let o = a.matches.now in
-    elim c.if-keeps.branch [
-      | then-keeps w ↦ rw (w.matches-is, w.k-is) (taken t rs o l.matches l.k l.i l.invariant h (tested t rs l.i c.at.ensures c.keeps.ensures w.if-keeps.true))
-      | else-keeps w ↦ rw (w.matches-is, w.k-is) (passed t rs o l.matches l.k l.i l.invariant h (tested t rs l.i c.at.ensures c.keeps.ensures w.if-keeps.false))
+    elim c.if-kept_at.branch [
+      | then-kept_at w ↦ rw (w.matches-is, w.k-is) (taken t rs o l.matches l.k l.i l.invariant h (sym c.kept_at.ensures ∙ w.if-kept_at.true))
+      | else-kept_at w ↦ rw (w.matches-is, w.k-is) (passed t rs o l.matches l.k l.i l.invariant h (sym c.kept_at.ensures ∙ w.if-kept_at.false))
     ]
 
 pub returns : goal.returns

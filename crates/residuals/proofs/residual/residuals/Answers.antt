@@ -1,22 +1,15 @@
 -- `residuals::residual::residuals` meets its contract. The invariant: what is written and counted so far, with what the matches that are left bring, is the whole. Assumes nothing.
-use mathlib.Core.Path.{◌≡◌, ap, ◌∙◌}
+use mathlib.Core.Path.{ap, ◌∙◌}
 use mathlib.Core.List.{[]}
-use Prim.Native.Nat.{◌-◌, ◌/◌, ◌<◌}
+use Prim.Native.Nat.{◌/◌, ◌<◌}
 use native.Mathlib.Omega.{arith}
 use lib.ListN.{length}
-use Rattle.fit.specs.Rows.{rows, direction_at}
+use Rattle.fit.specs.Rows.{direction_at}
 use Rattle.fit.proofs.Lookup.{pair_spot, pair_direction}
 use Rattle.panel.specs.Spots.{spot_at}
 use Rattle.residuals.proofs.Distances.{residuals_next, residuals_none, written_next, written_done, counted_next, counted_done, tallied}
 use borrow.Author.Rules.{rules}
 use Rattle.residuals.proofs.residual.residuals.Goals as goal
-
-pub loop-i-init : goal.loop-i-init
-unfolding rows
-loop-i-init c =
-    let a = c.args in
-    let e : length a.matches.now / 2 - 0 ≡ length a.matches.now / 2 = omega arith in
-    (search rules, search rules, rw e, rw e (omega arith))
 
 pub loop-i-preserved : goal.loop-i-preserved
 loop-i-preserved c =

@@ -1,14 +1,15 @@
-use Rattle.std.proofs.Common.{◌≡◌, refl}
-use lib.Ieee.{Float, nan, inf, fin, binary64, lt, div, of_bits}
-use Rattle.rounding.specs.Methods.{abs_f, is_finite}
+-- The library's float_is_finite, by the cases of a float.
+use Rattle.std.proofs.Common.{◌≡◌, refl, ◌∙◌}
+use Rattle.std.specs.Float.{float_is_finite}
+use lib.Ieee.{Float, nan, inf, fin}
+use Rattle.rounding.specs.Methods.{is_finite}
 use Rattle.rounding.proofs.methods.is_finite.Goals as goal
 
--- below 1.0 / 0.0, which is the infinity
-below : (x : Float) → lt (abs_f x) (div binary64 (of_bits binary64 0x3ff0_0000_0000_0000) (of_bits binary64 0)) ≡ is_finite x
-unfolding lt div of_bits abs_f is_finite
-below nan = refl
-below (inf s) = refl
-below (fin s m e) = refl
+same : (x : Float) → float_is_finite x ≡ is_finite x
+unfolding float_is_finite is_finite
+same nan = refl
+same (inf s) = refl
+same (fin s m e) = refl
 
 pub returns : goal.returns
-returns c = rw c.abs.ensures (below c.args.x)
+returns c = c.is_finite.ensures.value ∙ same c.args.x

@@ -65,22 +65,20 @@ pub root_bits-requires : goal.root_bits-requires
 root_bits-requires g c =
     let k = left _ (g.F.Binary.value c.args.x) c.pattern-b.result _ _ _ _ _ c.pattern-b.ensures.held c.pattern-b.ensures.is c.INFINITE.ensures g.met.F.Binary.infinite_is
     c.is_nan.ensures c.if-is_nan.false c.is_zero.ensures c.if-is_zero.false c.is_below_zero.ensures c.if-is_below_zero.false in
-    (g.F.Binary.format, meets _ _ _ _ k c.DIGITS.result c.LEAST.result (g.met.F.Binary.digits_is ∙ sym (ap (λ (d : ℕ). d + 1) c.DIGITS.ensures)) (g.met.F.Binary.least_is ∙ sym c.LEAST.ensures) c.if-b-INFINITE.true)
+    meets _ _ _ _ k g.F.Binary.DIGITS g.F.Binary.LEAST g.met.F.Binary.digits_is g.met.F.Binary.least_is c.if-b-INFINITE.true
 
 pub read-requires : goal.read-requires
 read-requires g c =
     let k = left _ (g.F.Binary.value c.args.x) c.pattern-b.result _ _ _ _ _ c.pattern-b.ensures.held c.pattern-b.ensures.is c.INFINITE.ensures g.met.F.Binary.infinite_is
     c.is_nan.ensures c.if-is_nan.false c.is_zero.ensures c.if-is_zero.false c.is_below_zero.ensures c.if-is_below_zero.false in
-    let P = meets _ _ _ _ k c.DIGITS.result c.LEAST.result (g.met.F.Binary.digits_is ∙ sym (ap (λ (d : ℕ). d + 1) c.DIGITS.ensures)) (g.met.F.Binary.least_is ∙ sym c.LEAST.ensures) c.if-b-INFINITE.true in
-    let r = given _ _ _ _ k c.root_bits.result c.if-b-INFINITE.true (c.root_bits.ensures g.F.Binary.format P) in
+    let r = given _ _ _ _ k c.root_bits.result c.if-b-INFINITE.true c.root_bits.ensures in
     record { fits = r.0; no_nan = r.1 }
 
 pub returns-then-b-INFINITE : goal.returns-then-b-INFINITE
 returns-then-b-INFINITE g c =
     let k = left _ (g.F.Binary.value c.args.x) c.pattern-b.result _ _ _ _ _ c.pattern-b.ensures.held c.pattern-b.ensures.is c.INFINITE.ensures g.met.F.Binary.infinite_is
     c.is_nan.ensures c.if-is_nan.false c.is_zero.ensures c.if-is_zero.false c.is_below_zero.ensures c.if-is_below_zero.false in
-    let P = meets _ _ _ _ k c.DIGITS.result c.LEAST.result (g.met.F.Binary.digits_is ∙ sym (ap (λ (d : ℕ). d + 1) c.DIGITS.ensures)) (g.met.F.Binary.least_is ∙ sym c.LEAST.ensures) c.if-b-INFINITE.true in
-    c.read.ensures ∙ (given _ _ _ _ k c.root_bits.result c.if-b-INFINITE.true (c.root_bits.ensures g.F.Binary.format P)).2
+    c.read.ensures ∙ (given _ _ _ _ k c.root_bits.result c.if-b-INFINITE.true c.root_bits.ensures).2
 
 pub returns-else-b-INFINITE : goal.returns-else-b-INFINITE
 returns-else-b-INFINITE g c =

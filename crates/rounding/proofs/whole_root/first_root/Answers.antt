@@ -4,7 +4,6 @@ use Rattle.rounding.proofs.whole_root.first_root.Goals as goal
 
 pub returns : goal.returns
 returns c =
-    let a = c.args.a in
-    let f = c.ranges.a.fits in
-    let y_lt : 511 - a / 2 ^ 55 < 384 = omega arith in
-    close (511 - a / 2 ^ 55) y_lt (a / 2 ^ 48) (omega arith) (omega arith)
+    let a = c.args.a.word in
+    let y_lt : 511 - a / 2 ^ 55 < 384 = omega (arith, c.args.a.high) in
+    close (511 - a / 2 ^ 55) y_lt (a / 2 ^ 48) (omega (arith, c.args.a.high)) (omega (arith, c.well_formed))

@@ -47,4 +47,10 @@ returns c =
     let t = c.below-t.result in
     let k = known c.args.near m t c.ranges.m.fits c.requires c.below-t.ensures in
     let q : (s - t) * (s - t) ≡ r * r = ap (λ (x : ℕ). x * x) k.root in
-    (omega (arith, k.square, (root_is m).0), omega (arith, k.square, k.root, (root_is m).1, square_suc r))
+    omega (arith, k.square, (root_is m).0)
+
+pub invariant_of-result : goal.invariant_of-result
+invariant_of-result c =
+    let m = c.args.m in
+    let k = known c.args.near m c.below-t.result c.ranges.m.fits c.requires c.below-t.ensures in
+    omega (arith, k.square, k.root, (root_is m).1, square_suc (whole_root m))

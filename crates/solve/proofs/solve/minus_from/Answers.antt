@@ -1,10 +1,7 @@
 -- `solve::solve::minus_from` meets its contract. The invariant: the definition from j on, of the row as it stands, is the whole. Assumes nothing.
 use Rattle.solve.proofs.Elimination.{minus_next, minus_done}
-use Rattle.std.proofs.Common.{sym, refl, ◌∙◌, add-one, arith, rules}
+use Rattle.std.proofs.Common.{sym, ◌∙◌, add-one, arith, rules}
 use Rattle.solve.proofs.solve.minus_from.Goals as goal
-
-pub loop-j-init : goal.loop-j-init
-loop-j-init c = (search rules, search rules, refl)
 
 pub loop-j-preserved : goal.loop-j-preserved
 loop-j-preserved c =

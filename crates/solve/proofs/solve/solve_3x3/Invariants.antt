@@ -2,5 +2,5 @@ use Rattle.solve.specs.Solve.{solved_from}
 use Rattle.std.proofs.Common.{◌≡◌, ◌-◌}
 use Rattle.solve.proofs.solve.solve_3x3.Given as goal
 
-abbrev pub invariant-loop-col : goal.invariant-loop-col
-invariant-loop-col l = (solved_from l.col (3 - l.col) l.m ≡ solved_from 0 3 l.initial.m)
+abbrev pub invariant-loop-at : goal.invariant-loop-at
+invariant-loop-at l = (solved_from l.at (3 - l.at) l.m ≡ solved_from 0 3 l.initial.m)

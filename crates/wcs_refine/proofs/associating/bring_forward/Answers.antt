@@ -28,9 +28,3 @@ loop-i-preserved c =
     let a = c.args in
     let l = c.loop-i in
     step a.from a.n l.i l.numbers a.numbers.now c.loop-i-test.true c.requires.1 l.invariant
-
-pub returns : goal.returns
-returns c =
-    let a = c.args in
-    let l = c.loop-i in
-    ended a.from a.n l.i l.numbers a.numbers.now l.auto.i-end c.loop-i-test.false c.requires.1 l.invariant

@@ -14,9 +14,9 @@ pub compute_stats-requires : goal.compute_stats-requires
 compute_stats-requires c =
     let a = c.args in
     let fits : length a.matches.now / 2 ≤ length a.floats.now = omega (arith, c.requires) in (
-      omega (arith, c.requires, c.compute_residuals-in_front.auto),
+      omega (arith, c.requires, c.residuals-in_front.auto),
       counted_front _ a.floats.now _ (length a.matches.now / 2) (residual_count a.course.now.k.cut a.course.now.spots.now a.course.now.directions.now a.pose a.matches.now) fits
-          c.compute_residuals-in_front.ensures,
+          c.residuals-in_front.ensures,
     )
 
 pub returns-in_err-s : goal.returns-in_err-s
@@ -26,7 +26,7 @@ returns-in_err-s c =
     ap (λ (x : Option ℕ). clipped x a.matches.now) c.from_residual.ensures
     ∙ closing_none a.course.now.k.cut a.course.now.spots.now a.course.now.directions.now a.pose a.matches.now c.if-n-lt-FEWEST_MATCHES.false _ _
     (written_front _ a.floats.now _ (length a.matches.now / 2) (residual_count a.course.now.k.cut a.course.now.spots.now a.course.now.directions.now a.pose a.matches.now) fits
-    c.compute_residuals-in_front.ensures) c.compute_stats.ensures c.in_err-s.was
+    c.residuals-in_front.ensures) c.compute_stats.ensures c.in_err-s.was
 
 pub returns : goal.returns
 returns c =
@@ -35,4 +35,4 @@ returns c =
     let whole : length a.matches.now / 2 - 0 ≡ length a.matches.now / 2 = omega arith in
     closing_some a.course.now.k.cut a.course.now.spots.now a.course.now.directions.now a.pose a.matches.now c.if-n-lt-FEWEST_MATCHES.false _ _
     (written_front _ a.floats.now _ (length a.matches.now / 2) (residual_count a.course.now.k.cut a.course.now.spots.now a.course.now.directions.now a.pose a.matches.now) fits
-    c.compute_residuals-in_front.ensures) c.compute_stats.ensures (length a.matches.now / 2 - 0) whole c.in_ok-s.was c.mad_clip_matches.ensures
+    c.residuals-in_front.ensures) c.compute_stats.ensures (length a.matches.now / 2 - 0) whole c.in_ok-s.was c.mad_clip_matches.ensures

@@ -7,12 +7,12 @@ use Rattle.wcs_refine.proofs.comparing.same_matches.Given as goal
 
 abbrev pub invariant-loop-i : goal.invariant-loop-i
 invariant-loop-i l =
-    (l.i ≤ l.t)
-    × Marking l.base l.n l.start l.t l.numbers l.fn.numbers (links (slice (l.start + 2 * l.i) (l.start + 2 * l.t) l.fn.numbers))
-    (links (slice l.start (l.start + 2 * l.t) l.fn.numbers))
+    (l.i ≤ l.at.t)
+    × Marking l.at.base l.at.n l.at.start l.at.t l.numbers l.fn.numbers (links (slice (l.at.start + 2 * l.i) (l.at.start + 2 * l.at.t) l.fn.numbers))
+    (links (slice l.at.start (l.at.start + 2 * l.at.t) l.fn.numbers))
 
 abbrev pub invariant-loop-j : goal.invariant-loop-j
 invariant-loop-j l =
-    (l.j ≤ l.t) × (length l.numbers ≡ length l.fn.numbers)
-    × Striking l.base l.n l.start l.t l.numbers l.fn.numbers (links (slice (0 + 2 * l.j) (0 + 2 * l.t) l.fn.numbers))
-    (same_matches (slice l.start (l.start + 2 * l.t) l.fn.numbers) (take (2 * l.used) l.fn.numbers))
+    (l.j ≤ l.at.t) × (length l.numbers ≡ length l.fn.numbers)
+    × Striking l.at.base l.at.n l.at.start l.at.t l.numbers l.fn.numbers (links (slice (0 + 2 * l.j) (0 + 2 * l.at.t) l.fn.numbers))
+    (same_matches (slice l.at.start (l.at.start + 2 * l.at.t) l.fn.numbers) (take (2 * l.used) l.fn.numbers))

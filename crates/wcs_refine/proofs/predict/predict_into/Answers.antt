@@ -3,7 +3,7 @@
 use Rattle.std.proofs.Common.{◌≡◌, ℕ, ◌+◌, ◌-◌, ◌*◌, ◌<◌, ◌≤◌, true, false, ◌⊎◌, List, [], ◌∷◌, length, get_or, take, set, sym, ap, ◌∙◌, subst, inl, inr, ⊎_elim, arith, length-set, get_or-drop, get_or-take, ext_get_or, rules}
 use lib.Ieee.{Float}
 use lib.Seq.{slice, slice_empty, length-slice}
-use Rattle.query.specs.Listing.{falling, standing}
+use Rattle.query.specs.Listing.{falls, standing}
 use Rattle.wcs_refine.specs.Listing.{Told, points}
 use Rattle.query.specs.declared.Fall.{Fall}
 use Rattle.query.proofs.Listed.{Writing, onward, push, in_front, behind, how_many, whole, front_push, front_whole, next_stands, next_off}
@@ -102,7 +102,7 @@ loop-i-preserved c =
     let a = c.args in
     let l = c.loop-i in
     let h = c.loop-i-test.true in
-    let f = falling a.scale a.cut a.prune_r a.directions.now a.rows in
+    let f = falls a.projection.now in
     let o = a.numbers.now in
     let low : l.k ≤ a.n = omega arith in
     let same = unread a.from a.n a.to c.requires.0 o l.numbers l.k l.i low c.requires.2 l.invariant.2 h
@@ -123,5 +123,5 @@ pub returns : goal.returns
 returns c =
     let a = c.args in
     let l = c.loop-i in
-    ended (falling a.scale a.cut a.prune_r a.directions.now a.rows) a.from a.n a.to a.numbers.now l.numbers a.xy.now l.xy l.k l.i
+    ended (falls a.projection.now) a.from a.n a.to a.numbers.now l.numbers a.xy.now l.xy l.k l.i
     l.invariant.1 l.invariant.0 (search rules) c.requires.0 c.requires.1 c.requires.2 c.requires.3 l.invariant.2 l.invariant.3

@@ -11,7 +11,7 @@ returns c =
     let a = c.args in
     let n = length a.matches.now / 2 in
     let whole : n - 0 ≡ n = omega arith in
-    let d = c.compute_residuals-in_front.ensures in
+    let d = c.residuals-in_front.ensures in
     let e = written_front _ a.floats.now _ n (residual_count a.course.now.k.cut a.course.now.spots.now a.course.now.directions.now a.pose a.matches.now) c.requires d in
     report_is a.pose a.matches.now (rows a.course.now.spots.now a.course.now.directions.now a.matches.now) (fixed_of a.course.now.k) _ _ _ _ _ _
-    (ap (λ (m : ℕ). take m c.compute_residuals-in_front.new.out) whole ∙ e) d.counted c.sum_squares-sum.ensures c.root_mean-rms.ensures c.covariance-cov.ensures c.cd_from_theta-cd.ensures
+    (ap (λ (m : ℕ). take m c.residuals-in_front.new.floats) whole ∙ e) d.counted c.sum_squares-sum.ensures c.root_mean-rms.ensures c.covariance-cov.ensures c.cd_from_theta-cd.ensures

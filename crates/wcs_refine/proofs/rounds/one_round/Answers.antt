@@ -1,20 +1,33 @@
 -- `wcs_refine::rounds::one_round` meets its contract: whether the pose stayed within the bounds picks the definition's case. Assumes nothing.
-use Rattle.wcs_refine.proofs.Lent.{same_self}
-use Rattle.wcs_refine.proofs.RoundSteps.{round_unsound, round_sound}
+use Rattle.std.proofs.Common.{rules}
+use Rattle.wcs_refine.specs.Keeping.{state_of, RoundTo}
+use Rattle.wcs_refine.proofs.Along.{hands_on}
+use Rattle.wcs_refine.proofs.Lent.{same_self, same_on}
+use Rattle.wcs_refine.proofs.RoundSteps.{round_unsound, round_refused, round_sound}
 use Rattle.wcs_refine.proofs.rounds.one_round.Goals as goal
 
 pub returns-in_default : goal.returns-in_default
 returns-in_default c =
-    let a = c.args in
+    let w = c.args.w.now in
     let f = c.fit_held-f in
-    (same_self a.w.now, round_unsound a.course.now.k a.course.now.room a.course.now.spots.now a.course.now.directions.now a.held a.w.now.numbers.now f.result c.requires.1 f.ensures c.in_default.is)
+    (same_self w, round_unsound w.course.k w.course.room w.course.spots.now w.course.directions.now w.held w.numbers.now f.result f.ensures c.in_default.is (state_of w))
+
+pub returns-in_err-found : goal.returns-in_err-found
+returns-in_err-found c =
+    let w = c.args.w.now in
+    let f = c.fit_held-f in
+    let s = c.in_err-found.ensures in
+    let left = state_of c.renew.new.w in (
+      same_on (search rules) s.0,
+      hands_on (RoundTo left _) _ c.from_residual.ensures.1
+          (round_refused w.course.k w.course.room w.course.spots.now w.course.directions.now w.held w.numbers.now f.result f.ensures left c.in-Ok.is _ s.1),
+    )
 
 pub returns : goal.returns
 returns c =
-    let a = c.args in
+    let w = c.args.w.now in
     let f = c.fit_held-f in
-    let s = c.renew-s.ensures in (
-      s.0,
-      round_sound a.course.now.k a.course.now.room a.course.now.spots.now a.course.now.directions.now a.held a.w.now.numbers.now f.result c.requires.1 f.ensures _ _ c.in-Ok.is
-          c.pose_at-h.ensures s.1,
+    let s = c.in_ok-found.ensures in (
+      same_on (search rules) s.0,
+      round_sound w.course.k w.course.room w.course.spots.now w.course.directions.now w.held w.numbers.now f.result f.ensures _ c.in-Ok.is _ s.1,
     )

@@ -1,6 +1,7 @@
-use Rattle.printing.proofs.Pushes.{write_as}
+use Rattle.std.proofs.Common.{refl}
+use Rattle.printing.proofs.Pushes.{as_text}
 use Rattle.printing.proofs.Digits.{decimal_all}
 use Rattle.printing.proofs.laying.Writer.push_decimal.Goals as goal
 
 pub returns : goal.returns
-returns c = write_as (decimal_all c.args.n) c.push_digits.ensures
+returns c = record { same = refl; lays = as_text (decimal_all c.args.n) c.lay_digits-self.ensures }

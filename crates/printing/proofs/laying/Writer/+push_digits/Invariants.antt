@@ -1,4 +1,0 @@
-use Rattle.printing.proofs.laying.Writer.+push_digits.Given as goal
-
-abbrev pub decreases-push_digits : goal.decreases-push_digits
-decreases-push_digits l = l.k
