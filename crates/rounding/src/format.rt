@@ -114,6 +114,7 @@ impl Binary for f64 {
         self < 0.0
     }
 
+    #[tactic(auto, unfolding(std::specs::Prelude::from_bits))]
     fn not_a_number() -> f64 {
         f64::NAN
     }
@@ -178,6 +179,7 @@ impl Binary for f32 {
         self < 0.0
     }
 
+    #[tactic(auto, unfolding(std::specs::Prelude::from_bits))]
     fn not_a_number() -> f32 {
         f32::NAN
     }
