@@ -3,7 +3,7 @@ use mathlib.Core.Path.{◌≡◌, ap, ◌∙◌}
 use mathlib.Core.List.{List, [], ◌∷◌, ◌++◌, append-nil}
 use Prim.Native.Nat.{ℕ, zero, suc, ◌≤◌, min}
 use native.Mathlib.Omega.{arith}
-use lib.ListN.{length, drop, replicate}
+use lib.ListN.{length, take, drop, replicate, length-take}
 use lib.Seq.{drop-length}
 use Rattle.lists.specs.Cleared.{cleared}
 
@@ -22,9 +22,11 @@ module _ {A : Type 0} (z : A) where
   drop_min (suc n) [] = let e : min (suc n) 0 ≡ 0 = omega arith in rw e
   drop_min (suc n) (x ∷ l) = let e : min (suc n) (suc (length l)) ≡ suc (min n (length l)) = omega arith in rw e (drop_min n l)
 
-  -- the loop has passed m places, which are those to clear
-  pub all_cleared : (n m i : ℕ) (l s : List A) → m ≡ min n (length l) → i ≤ m → m ≤ i → s ≡ replicate i z ++ drop i l → s ≡ cleared z n l
+  -- a loop has passed the m places to clear, which are all of the front
+  pub all_cleared : (n m i : ℕ) (l s : List A) → m ≡ min n (length l) → length (take m l) ≤ i → i ≤ length (take m l) → s ≡ replicate i z ++ drop i (take m l) → s ++ drop m l ≡ cleared z n l
   unfolding cleared
   all_cleared n m i l s e h k did =
-      let all : i ≡ min n (length l) = omega arith in
-      did ∙ ap (λ (j : ℕ). replicate j z ++ drop j l) all ∙ ap (λ (r : List A). replicate (min n (length l)) z ++ r) (drop_min n l)
+      let all : i ≡ length (take m l) = omega arith in
+      let len : length (take m l) ≡ m = omega (arith, length-take m l) in
+      let front : s ≡ replicate m z = did ∙ rw all (ap (λ (r : List A). replicate (length (take m l)) z ++ r) (drop-length (take m l)) ∙ append-nil (replicate (length (take m l)) z) ∙ ap (λ (j : ℕ). replicate j z) len) in
+      rw (front, e) (ap (λ (r : List A). replicate (min n (length l)) z ++ r) (drop_min n l))

@@ -7,6 +7,7 @@ ghost use Rattle.std.specs.Float.Ieee.{of_bits};
 ghost use Rattle.lists.specs.Cleared.{cleared};
 
 // What a cleared place of a list is left as.
+// Stays (no plainer): `ConstZero` of the crate `num_traits` asks an order, sums and their laws of a type too, and here it is one constant of two types.
 pub trait Zero: Copy {
     ghost ZERO: { Self };
 
@@ -52,7 +53,8 @@ pub fn put<T: Copy>(s: &mut [T], i: usize, x: T)
 pub fn clear<T: Zero>(s: &mut [T], n: usize)
     ensures { s.new ≡ cleared T.ZERO n s.old }
 {
-    for i in 0..n.min(s.len()) {
-        s[i] = T::ZERO;
+    let most = n.min(s.len());
+    for x in s[..most].iter_mut() {
+        *x = T::ZERO;
     }
 }

@@ -1,7 +1,7 @@
-use Rattle.std.proofs.Common.{◌≡◌, ◌++◌, drop, length}
+use Rattle.std.proofs.Common.{◌≡◌, ◌++◌, drop}
 use Rattle.std.specs.Prelude.{replicate}
 use Rattle.lists.proofs.clear.Given as goal
 
--- So much of it is zero, and the rest is as it was.
-abbrev pub invariant-loop-i : goal.invariant-loop-i
-invariant-loop-i g l = (length l.s ≡ length l.fn.s) × (l.s ≡ replicate l.i g.T.Zero.ZERO ++ drop l.i l.fn.s)
+-- So much of the front is zero, and the rest of it is as it was.
+abbrev pub invariant-loop-x : goal.invariant-loop-x
+invariant-loop-x g l = l.x-items ≡ replicate l.x-index g.T.Zero.ZERO ++ drop l.x-index l.initial.x-items
