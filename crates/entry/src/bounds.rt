@@ -15,6 +15,7 @@ pub struct Count<const MOST: usize> {
 impl<const MOST: usize> Count<MOST> {
     pub const MOST: usize = MOST;
 
+    // Stays (no plainer): `From<usize>` is an impl with a ghost member where this has one clause, and its four calls would read as they do.
     pub fn of(count: usize) -> Self
         ensures { result.count ≡ count }
     {

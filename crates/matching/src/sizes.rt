@@ -12,6 +12,7 @@ pub(crate) struct Sizes {
 }
 
 impl Sizes {
+    // Stays (no plainer): it counts what a search has, and converts nothing; `From<Search>` is an impl with a ghost member where this has one clause.
     pub(crate) fn of(s: Search<'_>) -> Self
         ensures { (result.spots ≡ s.entry.np) × (result.predictions ≡ length s.entry.predicted.now / 2) }
     {

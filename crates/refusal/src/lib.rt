@@ -40,6 +40,7 @@ pub enum Refusal {
 }
 
 impl Refusal {
+    // Stays (no plainer): the method says which number of a refusal is meant, and `usize::from` of one would not.
     pub fn number(self) -> usize
         ensures { result ≡ number_of self }
     {

@@ -58,7 +58,7 @@ summary (x ∷ xs) v₁ v₂ v₃ v₄ m d h F₀ F₂ G₁ G₂ S₁ e S₂ c =
       scratch = c ∙ ap (λ (n : ℕ). replicate n zero64) (sym long ∙ deviations_long m v₀);
     }
 
-pub nothing : (v : List Float) → length v < 1 → Summarised v v (record { median = zero64; sigma = zero64 })
+pub nothing : (v : List Float) (r : MedianSigma) → r.median ≡ zero64 → r.sigma ≡ zero64 → length v < 1 → Summarised v v r
 unfolding median_mad_sigma
-nothing [] h = record { result = refl; scratch = refl }
-nothing (x ∷ xs) h = absurd (omega arith)
+nothing [] r m s h = record { result = ap (λ (x : Float). record { median = x; sigma = r.sigma }) m ∙ ap (λ (x : Float). record { median = zero64; sigma = x }) s; scratch = refl }
+nothing (x ∷ xs) r m s h = absurd (omega arith)

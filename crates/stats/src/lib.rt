@@ -11,7 +11,7 @@ mod selection; // selection.rt: the element at a place of the order
 const MAD_SCALE: f64 = 1.4826;
 
 // The median, and the standard deviation that the median absolute deviation stands for.
-#[derive(Clone, Copy)]
+#[derive(Clone, Copy, Default)]
 pub struct MedianSigma {
     pub median: f64,
     pub sigma: f64,
@@ -33,10 +33,7 @@ pub fn median_mad_sigma(vals: &mut [f64]) -> MedianSigma
 {
     let n = vals.len();
     if n < 1 {
-        return MedianSigma {
-            median: 0.0,
-            sigma: 0.0,
-        };
+        return MedianSigma::default();
     }
     let mid = n / 2;
     let median = selection::select(vals, mid);

@@ -42,6 +42,7 @@ impl Sample<'_> {
         let a = total_key(self.v[at]);
         let b = total_key(self.v[at + self.step]);
         let c = total_key(self.v[at + 2 * self.step]);
+        // Stays (no plainer): a closure in place of the side would be chosen among three by this same match.
         match self.side {
             Side::Low => a.min(b).min(c),
             Side::Middle => middle_of(a, b, c),
@@ -70,6 +71,7 @@ impl Sample<'_> {
 }
 
 // A key near the one at place k of the order.
+// Stays (no plainer): here, in `sampled` and in `select`, k is a place of the list beside it; `select` is lent that list to write, the others to read.
 fn near(v: &[f64], k: usize) -> u64
     requires { k < length v.now }
 {

@@ -5,7 +5,7 @@ use Rattle.stats.proofs.Summary.{nothing, summary}
 use Rattle.stats.proofs.median_mad_sigma.Goals as goal
 
 pub returns-then-n-lt1 : goal.returns-then-n-lt1
-returns-then-n-lt1 c = nothing _ c.if-n-lt1.true
+returns-then-n-lt1 c = nothing _ _ c.default.ensures.0 c.default.ensures.1 c.if-n-lt1.true
 
 pub returns : goal.returns
 returns c =
