@@ -49,8 +49,8 @@ pub(crate) fn read_head(bytes: &[u8]) -> Result<Head<'_>, Refusal>
 {
     let mut numbers = [0u64; COUNT];
     let mut rest = bytes;
-    for i in 0..COUNT {
-        let n = number_to(rest, TOPS[i])?;
+    for (i, &top) in TOPS.iter().enumerate() {
+        let n = number_to(rest, top)?;
         numbers[i] = n.value;
         rest = &rest[n.bytes..];
     }
