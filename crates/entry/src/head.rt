@@ -1,7 +1,6 @@
 // What a run computes once from its arguments.
-ghost use Rattle.std.specs.Prelude.{◌≡◌, [], ◌∷◌};
+ghost use Rattle.std.specs.Prelude.{◌≡◌};
 ghost use Rattle.rounding.specs.Arith.{zero64};
-ghost use Rattle.solve.specs.Vector.{at};
 ghost use Rattle.entry.specs.Fixed.{farthest, fixed_from, start_pose_of, requery_margin, search_radius, requery_cos, radius_px, prune_r, margin_px, keep_r, theta_margin};
 ghost use Rattle.entry.specs.Entry.{fixed_of};
 
@@ -9,7 +8,7 @@ use crate::Settings;
 use angles::{asin, atan2, cos};
 use fit::Pose;
 use panel::{SPOT_NUMBERS, spot_at};
-use project::{Sky, dot, plane_at};
+use project::{Sky, dot, plane_at, widened};
 use rounding::{clamp, max, sqrt, widen};
 
 // The greatest distance of the first n spots, or 0 if there are none: the root of the greatest square.
@@ -58,13 +57,6 @@ pub fn settings_of(
 }
 
 // ---- the start pose
-
-// Stays (no plainer): it is one call of the library's `map`, as `narrowed_row` of camera.rt is with the narrowing.
-fn widened(v: [f32; 3]) -> [f64; 3]
-    ensures { result ≡ at v 0 ∷ at v 1 ∷ at v 2 ∷ [] }
-{
-    v.map(|x| widen(x))
-}
 
 // From the rotation's third row, the boresight, and its first, the camera's x axis.
 pub fn start_pose(rotation: [[f32; 3]; 3], scale: f64) -> Pose

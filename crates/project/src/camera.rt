@@ -1,6 +1,6 @@
 // The axes of the camera, and directions on them.
 ghost use Rattle.std.specs.Prelude.{◌≡◌, cond, [], ◌∷◌};
-ghost use Rattle.solve.specs.Vector.{row, entry, dot, norm, normalised, combined, negated};
+ghost use Rattle.solve.specs.Vector.{at, row, entry, dot, norm, normalised, combined, negated};
 ghost use Rattle.project.specs.Camera.{east, north, boresight, camera_rows, tan_basis, tan_project_vec, narrowed_row, rotation_from_theta_crval, mirrored, field_of_view, wcs_to_rotation};
 
 use crate::{Plane, Sky, WcsRotation};
@@ -89,6 +89,14 @@ pub fn tan_basis(crval: Sky) -> [[f64; 3]; 3]
     camera_rows_f64(0.0, crval)
 }
 
+// A direction's components in f64, the same values.
+// Stays (no plainer): it is one call of the library's `map`, as `narrowed_row` below is with the narrowing.
+pub fn widened(v: [f32; 3]) -> [f64; 3]
+    ensures { result ≡ at v 0 ∷ at v 1 ∷ at v 2 ∷ [] }
+{
+    v.map(|x| widen(x))
+}
+
 // Where a direction lies on the tangent plane of a basis, if it lies in front of it. It is asked of every direction in every pass, so the
 // denominator is looked at first.
 // Stays (no plainer): `divided` takes both numerators, which are not reckoned here for a direction on or behind the plane.
@@ -97,7 +105,7 @@ pub fn tan_project_vec(v: [f32; 3], basis: [[f64; 3]; 3], cut: f64) -> Option<Pl
     ensures { result ≡ tan_project_vec cut v basis }
 {
     let [east, north, boresight] = basis;
-    let w = [widen(v[0]), widen(v[1]), widen(v[2])];
+    let w = widened(v);
     let denom = dot(boresight, w);
     if denom <= cut {
         return None;

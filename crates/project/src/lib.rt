@@ -9,7 +9,7 @@ mod camera; // camera.rt: the camera's axes, and directions on them
 
 pub use camera::{
     boresight_of, camera_rows_f64, dot, plane_at, rotation_from_theta_crval, tan_basis,
-    tan_project_vec, wcs_to_rotation,
+    tan_project_vec, wcs_to_rotation, widened,
 };
 pub use project::{cd_from_theta, inverse_tan_project, predict_tanplane, tan_project};
 

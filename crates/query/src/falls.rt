@@ -7,8 +7,7 @@ ghost use Rattle.query.specs.Listing.{fall_of, falling, falls, standing, Fronted
 use crate::{Fall, Projection};
 use entry::Settings;
 use fit::direction_at;
-use project::dot;
-use rounding::widen;
+use project::{dot, widened};
 
 impl<'a> Projection<'a> {
     // Within a radius, at the scale and the plane cut of a call.
@@ -35,7 +34,7 @@ impl<'a> Projection<'a> {
     fn fall_of(&self, v: [f32; 3]) -> Fall
         ensures { result ≡ fall_of self.now.inv self.now.cut self.now.r self.now.rows v }
     {
-        let w = [widen(v[0]), widen(v[1]), widen(v[2])];
+        let w = widened(v);
         let [row_x, row_y, row_z] = self.rows;
         let z = dot(row_z, w);
         let x = self.inv * dot(row_x, w) / z;

@@ -9,8 +9,8 @@ use rounding::{narrow, sqrt};
 // PI as an f32 has it.
 const PI: f32 = 3.14159274;
 
-// Stays (no plainer): project's `dot` is of f64, and `Binary`, over which one could be of both widths, is not handed out; `scan_into` has the
-// product by itself, since it reads the components where they stand in the flat list.
+// Stays (no plainer): project's `dot` is of f64; one over `Float` of `num_traits` would speak, here and at each caller, of that trait's own format
+// and of each component as it converts it. `scan_into` has the product by itself, since it reads the components where they stand in the flat list.
 #[tactic(auto, unfolding(crate::specs::Query::dot32))]
 fn dot32(a: [f32; 3], b: [f32; 3]) -> f32
     ensures { result ≡ dot32 a b }
@@ -23,12 +23,10 @@ fn dot32(a: [f32; 3], b: [f32; 3]) -> f32
 pub fn axis32(b: [f64; 3]) -> [f32; 3]
     ensures { result ≡ axis32 b }
 {
-    let x = narrow(b[0]);
-    let y = narrow(b[1]);
-    let z = narrow(b[2]);
-    let n = sqrt(dot32([x, y, z], [x, y, z]));
+    let v = b.map(|x| narrow(x));
+    let n = sqrt(dot32(v, v));
     if 0.0 < n {
-        [x / n, y / n, z / n]
+        v.map(|x| x / n)
     } else {
         [1.0, 0.0, 0.0]
     }
