@@ -67,7 +67,7 @@ def point1(tree):
                 what = 'flag in a struct'
             elif in_struct and re.match(r'\s+(pub )?refusal: usize', line):
                 what = 'number of a refusal in a struct'
-            elif re.search(r'Refused\(usize\)|\b(refused|stopped)\(\d+\)|Refused\((\d+|UNSOUND)\)|const UNSOUND|\b(refused|stopped)\((number|refusal): usize', line):
+            elif re.search(r'Refused\(usize\)|\b(refused|stopped)\(\d+\)|Refused\((\d+|UNSOUND)\)|const UNSOUND|\b(refused|stopped)\((&(mut )?self, )?(number|refusal): usize', line):
                 what = 'number of a refusal'
             elif re.search(r'const (NEVER|NO_RESIDUAL)\b|return cap \+ 1', line):
                 what = 'number in place of no answer'

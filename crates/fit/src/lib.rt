@@ -41,14 +41,14 @@ pub struct View {
 }
 
 // The normal equations, the matrix by rows.
-#[derive(Clone, Copy)]
+#[derive(Clone, Copy, Default)]
 pub struct Sums {
     pub ata: [[f64; 3]; 3],
     pub atb: [f64; 3],
 }
 
 // Sums, and the number of matches that they are over.
-#[derive(Clone, Copy)]
+#[derive(Clone, Copy, Default)]
 pub struct Counted {
     pub sums: Sums,
     pub n: usize,

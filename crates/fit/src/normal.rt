@@ -113,20 +113,6 @@ fn with_row<F: Fn(Spot, Plane) -> Plane>(
     }
 }
 
-// Before the first match.
-#[tactic(auto, unfolding(crate::specs::Normal::no_matches, crate::specs::Normal::no_sums))]
-fn no_matches() -> Counted
-    ensures { result ≡ no_matches }
-{
-    Counted {
-        sums: Sums {
-            ata: [[0.0; 3]; 3],
-            atb: [0.0; 3],
-        },
-        n: 0,
-    }
-}
-
 // The sums over all matches, with the right sides that `brings` makes.
 // Stays (form of 01): spots, directions and matches are handed on as its callers are lent them: flat lists, each by itself.
 #[tactic(auto, unfolding(crate::specs::Rows::rows, crate::specs::Normal::no_matches))]
@@ -141,7 +127,7 @@ fn summed<F: Fn(Spot, Plane) -> Plane>(
     ensures { (fitting : Bool) → Brings (F.post brings) fitting w.now
         → result ≡ with_rows fitting w.now no_matches (rows spots.now directions.now matches.now) }
 {
-    let mut s = no_matches();
+    let mut s = Counted::default();
     for [spot, direction] in matches.as_chunks::<2>().0 {
         let c = spot_at(spots, *spot);
         let d = direction_at(directions, *direction);

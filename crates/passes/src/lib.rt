@@ -2,11 +2,13 @@
 #![tactic(auto)]
 
 ghost use Rattle.std.specs.Prelude.{◌≡◌};
+ghost use Rattle.refusal.specs.declared.Refusal.TheVariants.{Unsound as OutOfBounds};
 ghost use Rattle.fit.specs.Rows.{rows};
 ghost use Rattle.passes.specs.Fit.{moved, sound, still, fit_passes, passes_of};
 
 use fit::{Pose, ls_fit_once};
 use project::{Plane, Sky, inverse_tan_project};
+use refusal::Refusal;
 use rounding::abs;
 use solve::Solution;
 
@@ -24,6 +26,15 @@ const MOST_PASSES: usize = 10;
 #[derive(Clone, Copy)]
 pub struct Unsound {
     pub pose: Pose,
+}
+
+// A call is refused for it.
+impl From<Unsound> for Refusal {
+    ghost from_gives = { λ _ r. r ≡ OutOfBounds };
+
+    fn from(_left: Unsound) -> Refusal {
+        Refusal::Unsound
+    }
 }
 
 // How many passes there were, and the pose after them.

@@ -39,21 +39,13 @@ pub(crate) struct Rounded {
 }
 
 // So many rounds, fit passes and queries, and the most comparisons of a round.
-#[derive(Clone, Copy)]
+#[derive(Clone, Copy, Default)]
 pub(crate) struct Counts {
     pub rounds: usize,
     pub passes: usize,
     pub queries: usize,
     pub comparisons: usize,
 }
-
-// Before the first round.
-const NONE: Counts = Counts {
-    rounds: 0,
-    passes: 0,
-    queries: 0,
-    comparisons: 0,
-};
 
 // The matcher's radius; the call's own where there are no statistics.
 fn adaptive_px(k: Settings, s: Option<MedianSigma>) -> f64
@@ -112,16 +104,12 @@ fn fit_held(w: &Working<'_>) -> Passed
 }
 
 // One round on any state.
-// Stays (no plainer): the error of the passes is their own, with the pose that left its bounds; here it becomes the call's, 12.
 fn one_round(w: &mut Working<'_>) -> Result<Rounded, Refusal>
     ensures { Same w.old w.new
         × RoundTo (state_of w.new) (round_of w.old.course (state_of w.old)) result }
 {
     let f = fit_held(w);
-    let Ok(fitted) = f.end else {
-        return Err(Refusal::Unsound);
-    };
-    w.held.pose = fitted;
+    w.held.pose = f.end?;
     let found = renew(w)?;
     Ok(Rounded {
         found,
@@ -136,7 +124,7 @@ pub(crate) fn run(w: &mut Working<'_>, rounds: usize) -> Result<Counts, Refusal>
     ensures { Same w.old w.new
         × RanTo (state_of w.new) (loop_of w.old.course rounds (state_of w.old)) result }
 {
-    let mut counts = NONE;
+    let mut counts = Counts::default();
     for _turn in 0..rounds {
         let Rounded { found, passes } = one_round(w)?;
         counts = Counts {

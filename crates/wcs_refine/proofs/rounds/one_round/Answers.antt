@@ -6,11 +6,14 @@ use Rattle.wcs_refine.proofs.Lent.{same_self, same_on}
 use Rattle.wcs_refine.proofs.RoundSteps.{round_unsound, round_refused, round_sound}
 use Rattle.wcs_refine.proofs.rounds.one_round.Goals as goal
 
-pub returns-in_default : goal.returns-in_default
-returns-in_default c =
+pub returns-in_err-w : goal.returns-in_err-w
+returns-in_err-w c =
     let w = c.args.w.now in
-    let f = c.fit_held-f in
-    (same_self w, round_unsound w.course.k w.course.room w.course.spots.now w.course.directions.now w.held w.numbers.now f.result f.ensures c.in_default.is (state_of w))
+    let f = c.fit_held-f in (
+      same_self w,
+      hands_on (RoundTo (state_of w) _) _ c.from_residual.ensures.1
+          (round_unsound w.course.k w.course.room w.course.spots.now w.course.directions.now w.held w.numbers.now f.result f.ensures c.in_err-w.was (state_of w)),
+    )
 
 pub returns-in_err-found : goal.returns-in_err-found
 returns-in_err-found c =
@@ -19,8 +22,8 @@ returns-in_err-found c =
     let s = c.in_err-found.ensures in
     let left = state_of c.renew.new.w in (
       same_on (search rules) s.0,
-      hands_on (RoundTo left _) _ c.from_residual.ensures.1
-          (round_refused w.course.k w.course.room w.course.spots.now w.course.directions.now w.held w.numbers.now f.result f.ensures left c.in-Ok.is _ s.1),
+      hands_on (RoundTo left _) _ c.from_residual-in_err-found.ensures.1
+          (round_refused w.course.k w.course.room w.course.spots.now w.course.directions.now w.held w.numbers.now f.result f.ensures left c.in_ok-w.was _ s.1),
     )
 
 pub returns : goal.returns
@@ -29,5 +32,5 @@ returns c =
     let f = c.fit_held-f in
     let s = c.in_ok-found.ensures in (
       same_on (search rules) s.0,
-      round_sound w.course.k w.course.room w.course.spots.now w.course.directions.now w.held w.numbers.now f.result f.ensures _ c.in-Ok.is _ s.1,
+      round_sound w.course.k w.course.room w.course.spots.now w.course.directions.now w.held w.numbers.now f.result f.ensures _ c.in_ok-w.was _ s.1,
     )
