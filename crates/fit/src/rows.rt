@@ -12,7 +12,7 @@ use project::{Roll, tan_basis};
 pub fn direction_at(directions: &[f32], i: usize) -> [f32; 3]
     ensures { result ≡ direction_at directions.now i }
 {
-    three_at(directions, i, 0.0 / 0.0)
+    three_at(directions, i, f32::NAN)
 }
 
 // What a pass computes once from the pose.

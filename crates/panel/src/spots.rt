@@ -12,6 +12,6 @@ pub const SPOT_NUMBERS: usize = 3;
 pub fn spot_at(spots: &[f64], i: usize) -> Spot
     ensures { result ≡ spot_at spots.now i }
 {
-    let [px, py, weight] = three_at(spots, i, 0.0 / 0.0);
+    let [px, py, weight] = three_at(spots, i, f64::NAN);
     Spot { px, py, weight }
 }

@@ -25,7 +25,7 @@ fn keeps(threshold: f64, x: f64) -> bool
 fn kept_at(residuals: &[f64], i: usize, threshold: f64) -> bool
     ensures { result ≡ keeps threshold (get_or residuals.now i nan) }
 {
-    keeps(threshold, at(residuals, i, 0.0 / 0.0))
+    keeps(threshold, at(residuals, i, f64::NAN))
 }
 
 // How many of the first n matches are kept: those past the end of the residuals are not.
