@@ -1,20 +1,17 @@
--- Which text an answer has, and what it leaves in a list. Assumes nothing.
-use mathlib.Core.Path.{◌≡◌, refl, sym, ap, ◌∙◌}
+-- Which text an answer has. Assumes nothing.
+use mathlib.Core.Path.{◌≡◌, refl, sym, ap}
 use mathlib.Core.Bool.{Bool, cond}
 use mathlib.Core.List.{List}
-use Prim.Native.Nat.{ℕ, zero, suc, ◌+◌, ◌≤◌, ◌<◌, min}
+use Prim.Native.Nat.{ℕ, zero, suc, ◌<◌}
 use native.Mathlib.Omega.{arith}
 use borrow.Author.Tests.{lt-ltb}
-use lib.ListN.{length}
 use Rattle.std.specs.Prelude.{Ok, Err}
 use Rattle.refusal.specs.declared.Refusal.{Refusal}
 use Rattle.refusal.specs.Number.{number_of}
 use Rattle.refusal.proofs.Passing.{has_number}
 use Rattle.wcs_refine.specs.declared.WcsRefineResult.{WcsRefineResult}
 use Rattle.wcs_refine.specs.Returned.{refused_with, numbered, handed}
-use Rattle.printing.specs.Text.{refused_text, accepted_text, answer_text, set_from}
-use Rattle.printing.specs.Laying.{Laid, laid, Lays}
-use Rattle.printing.proofs.Pushes.{laid_from}
+use Rattle.printing.specs.Text.{refused_text, accepted_text, answer_text}
 
 pub above_zero : (n : ℕ) → (n ≡ 0 → ⊥) → 0 < n
 above_zero zero h = absurd (h refl)
@@ -28,16 +25,3 @@ answer_refused x ms =
 pub answer_accepted : (r : WcsRefineResult) (ms : List ℕ) → accepted_text (numbered 0 r) ms ≡ answer_text (handed (Ok r)) ms
 unfolding answer_text handed
 answer_accepted r ms = refl
-
--- All of a text, from the front of a list.
-pub from_front : (text : List ℕ) {before after : List ℕ} {n : ℕ} → Lays text (laid 0 before) (laid n after)
-    → (n ≡ min (length text) (length before)) × (after ≡ set_from 0 text before)
-from_front text {before} e =
-    let start : 0 ≤ length before = omega arith in
-    let all = e.so ∙ laid_from 0 text before start in
-    let count : min (0 + length text) (length before) ≡ min (length text) (length before) = omega arith in
-    (ap (λ (x : Laid). x.at) all ∙ count, ap (λ (x : Laid). x.bytes) all)
-
--- A list that ends as a writer leaves it.
-pub left_as : {left after last : List ℕ} → after ≡ left → last ≡ after → last ≡ left
-left_as e f = f ∙ e

@@ -6,8 +6,7 @@ use Prim.Native.Nat.{ℕ, zero, suc, ◌+◌, ◌-◌, ◌/◌, ◌%◌, ◌≤�
 use native.Mathlib.Omega.{arith}
 use borrow.Author.Tests.{lt-ltb, le-ltb}
 use lib.Dec.{ltb}
-use lib.Ieee.{Float, binary64, to_bits}
-use Rattle.printing.specs.Text.{decimal_from, decimal, hex_digit, hex_from, bits_text}
+use Rattle.printing.specs.Text.{decimal_from, hex_digit, hex_from}
 
 -- ---- decimal
 
@@ -23,10 +22,6 @@ decimal_before (suc k) n after =
     either_before (ltb n 10) ((48 + n) ∷ []) (decimal_from k (n / 10) (d ∷ [])) after refl
     (decimal_before k (n / 10) (d ∷ after) ∙ sym (append_assoc (decimal_from k (n / 10) []) (d ∷ []) after)
     ∙ ap (λ (s : List ℕ). s ++ after) (sym (decimal_before k (n / 10) (d ∷ []))))
-
-pub decimal_last : (k n : ℕ) → k ≡ 0 → decimal_from k n [] ≡ (48 + n % 10) ∷ []
-unfolding decimal_from
-decimal_last k n e = ap (λ (j : ℕ). decimal_from j n []) e
 
 pub decimal_one : (k n : ℕ) → n < 10 → decimal_from k n [] ≡ (48 + n % 10) ∷ []
 unfolding decimal_from
@@ -55,31 +50,9 @@ hex_before (suc k) n after =
     hex_before k (n / 16) (d ∷ after) ∙ sym (append_assoc (hex_from k (n / 16) []) (d ∷ []) after)
     ∙ ap (λ (s : List ℕ). s ++ after) (sym (hex_before k (n / 16) (d ∷ [])))
 
-pub hex_none : (k n : ℕ) → k ≡ 0 → hex_from k n [] ≡ []
-unfolding hex_from
-hex_none k n e = ap (λ (j : ℕ). hex_from j n []) e
-
 pub hex_more : (k n : ℕ) → 0 < k → hex_from k n [] ≡ hex_from (k - 1) (n / 16) [] ++ hex_digit (n % 16) ∷ []
 unfolding hex_from
 hex_more zero n g = absurd (omega arith)
 hex_more (suc k) n g =
     let less : k ≡ suc k - 1 = omega arith in
     hex_before k (n / 16) (hex_digit (n % 16) ∷ []) ∙ ap (λ (j : ℕ). hex_from j (n / 16) [] ++ hex_digit (n % 16) ∷ []) less
-
-pub hex_small : (d : ℕ) → d < 10 → 48 + d ≡ hex_digit d
-unfolding hex_digit
-hex_small d h = sym (ap (λ (b : Bool). cond b (48 + d) (55 + d)) (lt-ltb d 10 h))
-
-pub hex_letter : (d : ℕ) → 10 ≤ d → 55 + d ≡ hex_digit d
-unfolding hex_digit
-hex_letter d h = sym (ap (λ (b : Bool). cond b (48 + d) (55 + d)) (le-ltb d 10 h))
-
--- ---- whole numbers and floats
-
-pub decimal_all : (n : ℕ) → decimal_from 19 n [] ≡ decimal n
-unfolding decimal
-decimal_all n = refl
-
-pub bits_all : (x : Float) {b : ℕ} → b ≡ to_bits binary64 x → hex_from 16 b [] ≡ bits_text x
-unfolding bits_text
-bits_all x e = ap (λ (n : ℕ). hex_from 16 n []) e

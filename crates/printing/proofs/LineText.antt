@@ -1,6 +1,6 @@
 -- The text of lists of numbers and of matches, of one after the other. Assumes nothing.
-use mathlib.Core.Path.{◌≡◌, refl, sym, ap, ◌∙◌}
-use mathlib.Core.List.{List, [], ◌∷◌, ◌++◌, append-nil}
+use mathlib.Core.Path.{◌≡◌, refl, ap, ◌∙◌}
+use mathlib.Core.List.{List, [], ◌∷◌, ◌++◌, append-nil, append_assoc}
 use Prim.Native.Nat.{ℕ, suc, ◌/◌}
 use native.Mathlib.Omega.{arith}
 use lib.ListN.{length}
@@ -10,17 +10,10 @@ use Rattle.printing.specs.Text.{space, spaced, counts, line, match_lines}
 -- ---- numbers
 
 module _ {A : Type 0} (text : A → List ℕ) where
-  pub spaced_one : (x : A) → (space ∷ []) ++ text x ≡ spaced text (x ∷ [])
+  pub spaced_push : (xs : List A) (x : A) → spaced text (xs ++ x ∷ []) ≡ (spaced text xs ++ space ∷ []) ++ text x
   unfolding spaced
-  spaced_one x = ap (λ (l : List ℕ). space ∷ l) (sym (append-nil (text x)))
-
-  pub spaced_cons : (x : A) (xs : List A) → spaced text (x ∷ xs) ≡ spaced text (x ∷ []) ++ spaced text xs
-  unfolding spaced
-  spaced_cons x xs = ap (λ (l : List ℕ). space ∷ l ++ spaced text xs) (sym (append-nil (text x)))
-
-  pub spaced_none : spaced text [] ≡ []
-  unfolding spaced
-  spaced_none = refl
+  spaced_push [] x = grind (arith, append-nil)
+  spaced_push (y ∷ xs) x = grind (arith, append_assoc, spaced_push xs x)
 
 -- ---- matches
 
@@ -29,17 +22,10 @@ unfoldable pub pair_lines : List (List ℕ) → List ℕ
 pair_lines [] = []
 pair_lines (p ∷ ps) = line (109 ∷ []) (counts p) ++ pair_lines ps
 
-pub pairs_none : pair_lines [] ≡ []
+pub pairs_push : (ps : List (List ℕ)) (p : List ℕ) → pair_lines (ps ++ p ∷ []) ≡ pair_lines ps ++ line (109 ∷ []) (counts p)
 unfolding pair_lines
-pairs_none = refl
-
-pub pairs_one : (p : List ℕ) → line (109 ∷ []) (counts p) ≡ pair_lines (p ∷ [])
-unfolding pair_lines
-pairs_one p = sym (append-nil (line (109 ∷ []) (counts p)))
-
-pub pairs_cons : (p : List ℕ) (ps : List (List ℕ)) → pair_lines (p ∷ ps) ≡ pair_lines (p ∷ []) ++ pair_lines ps
-unfolding pair_lines
-pairs_cons p ps = ap (λ (l : List ℕ). l ++ pair_lines ps) (sym (append-nil (line (109 ∷ []) (counts p))))
+pairs_push [] p = grind (arith, append-nil)
+pairs_push (q ∷ ps) p = grind (arith, append_assoc, pairs_push ps p)
 
 pub pairs_all : (ms : List ℕ) → pair_lines (first_chunks 2 (length ms / 2) ms) ≡ match_lines ms
 unfolding pair_lines match_lines

@@ -7,6 +7,7 @@ use crate::laying::Writer;
 use wcs_refine::WcsRefineResult;
 
 impl Writer<'_> {
+    #[tactic(auto, unfolding(crate::specs::Text::refused_text))]
     pub(crate) fn refused(&mut self, number: usize)
         ensures { Writes (refused_text number) self.old self.new }
     {

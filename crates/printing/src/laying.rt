@@ -11,6 +11,7 @@ pub(crate) struct Writer<'a> {
 }
 
 // One byte at a place, and the place after it. A byte that finds no place is lost.
+#[tactic(auto, unfolding(crate::specs::Laying::pushed, crate::specs::Laying::put))]
 pub(crate) fn lay(b: u8, room: &mut [u8], at: usize) -> usize
     ensures { Lays (b ∷ []) (laid at room.old) (laid result room.new) }
 {
@@ -28,6 +29,7 @@ impl Writer<'_> {
         self.at = lay(b, self.room, self.at);
     }
 
+    #[tactic(auto, using(crate::proofs::Pushes::pushed_append, std::proofs::lemmas::Grind::take_at_read), unfolding(crate::specs::Laying::pushed))]
     pub(crate) fn push_bytes(&mut self, text: &[u8])
         ensures { Writes text.now self.old self.new }
     {

@@ -17,6 +17,7 @@ mod fields; // fields.rt: the lines of an answer
 // The text of an answer and of the matches that it reports, spot then direction, at the front of `out`, as far as that has places. How many
 // bytes of it hold text is the result.
 // Stays (fixed memory): here and below the text stands at the front of the lent list, and how long it is is answered.
+#[tactic(auto, using(crate::proofs::AnswerText::answer_refused, crate::proofs::AnswerText::answer_accepted))]
 pub fn print_answer(
     answer: Result<WcsRefineResult, Refusal>,
     matches: &[usize],
@@ -31,6 +32,7 @@ pub fn print_answer(
     }
 }
 
+#[tactic(auto, using(crate::proofs::Pushes::laid_from))]
 fn print_accepted(r: &WcsRefineResult, matches: &[usize], out: &mut [u8]) -> usize
     ensures value { result ≡ min (length (accepted_text (numbered 0 r.now) matches.now)) (length out.old) }
     ensures out_after { out.new ≡ set_from 0 (accepted_text (numbered 0 r.now) matches.now) out.old }
@@ -42,6 +44,7 @@ fn print_accepted(r: &WcsRefineResult, matches: &[usize], out: &mut [u8]) -> usi
 
 // The same of a refusal by its number alone, for what is turned away before there is an answer.
 // Stays (no plainer): any number is printed, and by a `Refusal` this would ask more of its callers.
+#[tactic(auto, using(crate::proofs::Pushes::laid_from))]
 pub fn print_refusal(number: usize, out: &mut [u8]) -> usize
     ensures value { result ≡ min (length (refused_text number)) (length out.old) }
     ensures out_after { out.new ≡ set_from 0 (refused_text number) out.old }

@@ -38,6 +38,7 @@ impl Shown for f64 {
 }
 
 impl Writer<'_> {
+    #[tactic(auto, using(crate::proofs::Pushes::pushed_append, crate::proofs::LineText::spaced_push, std::proofs::lemmas::Grind::take_at_read), unfolding(crate::specs::Laying::pushed, crate::specs::Text::spaced))]
     fn push_all<T: Shown>(&mut self, xs: &[T])
         ensures { Writes (spaced T.text xs.now) self.old self.new }
     {
@@ -47,6 +48,7 @@ impl Writer<'_> {
         }
     }
 
+    #[tactic(auto, using(crate::proofs::Pushes::pushed_append))]
     pub(crate) fn push_line<T: Shown>(&mut self, word: &[u8], xs: &[T])
         ensures { Writes (line word.now (spaced T.text xs.now)) self.old self.new }
     {
@@ -56,6 +58,7 @@ impl Writer<'_> {
     }
 
     // A line for each match.
+    #[tactic(auto, using(crate::proofs::Pushes::pushed_append, crate::proofs::LineText::pairs_push, crate::proofs::LineText::pairs_all, std::proofs::lemmas::Grind::common_steps), unfolding(crate::specs::Laying::pushed, crate::proofs::LineText::pair_lines))]
     pub(crate) fn match_lines(&mut self, ms: &[usize])
         ensures { Writes (match_lines ms.now) self.old self.new }
     {

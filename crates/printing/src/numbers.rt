@@ -8,6 +8,7 @@ use crate::laying::{Writer, lay};
 use rounding::to_bits;
 
 // In upper case: 55 and ten is the letter A.
+#[tactic(auto, unfolding(crate::specs::Text::hex_digit))]
 fn hex_digit(d: u64) -> u8
     requires { d < 16 }
     ensures { result ≡ hex_digit d }
@@ -21,6 +22,7 @@ fn hex_digit(d: u64) -> u8
 
 // At most k + 1 digits from a place on, those of n / 10 before the last one, and the place after them. Here and below the place goes from digit to
 // digit by value, which is quicker than in the writer.
+#[tactic(auto, using(crate::proofs::Digits::decimal_one, crate::proofs::Digits::decimal_more, crate::proofs::Pushes::pushed_append), unfolding(crate::specs::Text::decimal_from))]
 fn lay_digits(n: usize, k: usize, room: &mut [u8], at: usize) -> usize
     ensures { Lays (decimal_from k n []) (laid at room.old) (laid result room.new) }
 {
@@ -33,6 +35,7 @@ fn lay_digits(n: usize, k: usize, room: &mut [u8], at: usize) -> usize
 }
 
 // The k lowest digits, those of n / 16 before the last one.
+#[tactic(auto, using(crate::proofs::Digits::hex_more, crate::proofs::Pushes::pushed_append), unfolding(crate::specs::Laying::pushed, crate::specs::Text::hex_from))]
 fn lay_hex_digits(n: u64, k: usize, room: &mut [u8], at: usize) -> usize
     ensures { Lays (hex_from k n []) (laid at room.old) (laid result room.new) }
 {
@@ -45,12 +48,14 @@ fn lay_hex_digits(n: u64, k: usize, room: &mut [u8], at: usize) -> usize
 
 impl Writer<'_> {
     // Twenty digits hold every number of 64 bits.
+    #[tactic(auto, unfolding(crate::specs::Text::decimal))]
     pub(crate) fn push_decimal(&mut self, n: usize)
         ensures { Writes (decimal n) self.old self.new }
     {
         self.at = lay_digits(n, 19, self.room, self.at);
     }
 
+    #[tactic(auto, unfolding(crate::specs::Text::bits_text))]
     pub(crate) fn push_hex(&mut self, x: f64)
         ensures { Writes (bits_text x) self.old self.new }
     {
