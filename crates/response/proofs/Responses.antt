@@ -2,11 +2,9 @@
 use mathlib.Core.Path.{◌≡◌, refl, sym, subst}
 use mathlib.Core.Bool.{Bool, cond}
 use mathlib.Core.List.{List}
-use Prim.Native.Nat.{ℕ, ◌≤◌, min}
-use native.Mathlib.Omega.{arith}
+use Prim.Native.Nat.{ℕ, min}
 use borrow.Author.Tests.{lt-ltb}
-use lib.ListN.{length, take}
-use lib.Seq.{length-take-le}
+use lib.ListN.{length}
 use lib.Ieee.{Float}
 use Rattle.entry.specs.Arguments.{Lent}
 use Rattle.wcs_refine.specs.Returned.{Returned}
@@ -49,9 +47,3 @@ module _ (bytes : List ℕ) (ss : List Float) (ms : List ℕ) (ds : List Float) 
       → Printed (response_to bytes ss ms ds lent) n before after s m d left
   unfolding response_to response handed
   let_in h {n} {before} {after} {left} read p = subst (λ (y : Intake). Printed (response y lent) n before after s m d left) read p
-
--- So many bytes are within the list that holds the text, whose length stays.
-pub counted : (n k room : ℕ) (after : List ℕ) → n ≡ min k room → length after ≡ room → n ≡ length (take n after)
-counted n k room after e kept =
-    let w : n ≤ length after = omega (arith, e, kept) in
-    sym (length-take-le n after w)
