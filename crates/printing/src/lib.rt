@@ -16,7 +16,8 @@ mod fields; // fields.rt: the lines of an answer
 
 // The text of an answer and of the matches that it reports, spot then direction, at the front of `out`, as far as that has places. How many
 // bytes of it hold text is the result.
-// Stays (fixed memory): here and below the text stands at the front of the lent list, and how long it is is answered.
+// Stays (fixed memory): here and below the text stands at the front of the lent list, and how long it is is answered. Length and list are an equation
+// each with the text, which one name for both would hide.
 #[tactic(auto, using(crate::proofs::AnswerText::answer_refused, crate::proofs::AnswerText::answer_accepted))]
 pub fn print_answer(
     answer: Result<WcsRefineResult, Refusal>,

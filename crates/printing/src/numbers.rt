@@ -20,8 +20,8 @@ fn hex_digit(d: u64) -> u8
     55 + x
 }
 
-// At most k + 1 digits from a place on, those of n / 10 before the last one, and the place after them. Here and below the place goes from digit to
-// digit by value, which is quicker than in the writer.
+// At most k + 1 digits from a place on, those of n / 10 before the last one, and the place after them.
+// Stays (no plainer): here, below and in `lay` the place goes on by value, as each call answers it; the writer would be lent and written for each digit.
 #[tactic(auto, using(crate::proofs::Digits::decimal_one, crate::proofs::Digits::decimal_more, crate::proofs::Pushes::pushed_append), unfolding(crate::specs::Text::decimal_from))]
 fn lay_digits(n: usize, k: usize, room: &mut [u8], at: usize) -> usize
     ensures { Lays (decimal_from k n []) (laid at room.old) (laid result room.new) }
