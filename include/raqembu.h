@@ -22,7 +22,7 @@
  *       matches and min(spots, matching limit); or a record counts more than the lists it is read into hold
  *   12  after an update of theta, RA or Dec, one is not finite or exceeds 1,024 in absolute value
  *   13  a round finds more pairs within its radius than the candidate lists hold: half the places of `distances` or a quarter of those of
- *       `indices`, whichever is less
+ *       `indices`, whichever is less. A call that chooses the scanning matcher never gives it
  * and a record with one of these, before them:
  *    1  it is longer than 65,536 bytes
  *    2  it ends inside a number or before its last number
@@ -38,8 +38,9 @@
 
 /* Goes up by one wherever a function's arguments, the places of a list or the record change. 2: the plane cut is an argument of
  * raqembu_wcs_refine, a number of the record and a place of measures. 3: a spot has a weight, its third number in lists and in the record.
- * 4: counts has a place more, for the comparisons, in raqembu_wcs_refine and in raqembu_greedy_unique_matches. */
-#define RAQEMBU_VERSION 4
+ * 4: counts has a place more, for the comparisons, in raqembu_wcs_refine and in raqembu_greedy_unique_matches. 5: the choice of the matcher is an
+ * argument of raqembu_wcs_refine, after rounds. */
+#define RAQEMBU_VERSION 5
 
 /* The numbers of a spot in a list: x, y and weight. */
 #define RAQEMBU_SPOT_NUMBERS 3
@@ -56,8 +57,9 @@ extern "C" {
  * scale: radians per pixel. mirror: the image is mirrored. radius: of matching, in radians. cut: the plane cut. A direction is dropped
  * everywhere in the run where its denominator, its scalar product with the boresight, is at most this; 1e-12, which version 1 had built in, drops
  * those on or behind the projection plane, 0.5 those of length 1 that lie 60 degrees or more off the boresight.
- * limit: only the first so many spots are matched.
- * numbers, floats: working lists. distances, indices: room for candidate pairs. result: takes the matches, spot then direction.
+ * limit: only the first so many spots are matched. scanning: false for the matcher that lists the candidate pairs, true for the one that scans.
+ * numbers, floats: working lists. distances, indices: room for candidate pairs, of which the scanning matcher needs none: their lengths may be 0.
+ * result: takes the matches, spot then direction.
  * counts: 5 places for matches, rounds, fit passes, queries, comparisons. values: 18 places for theta, RA, Dec, scale; the matrix by rows; the error
  * (rms, in radians); the covariance of theta and the two offsets of the boresight, by rows.
  *
@@ -73,6 +75,17 @@ extern "C" {
  *    room for 268,435,456 pairs, as many as there can be      b 28    at most  7,516,192,768
  * The figure is 0 where the call is refused, where no round ran and where no pair was found.
  *
+ * The matchers give the same matches in the same sequence, and so the same answer but for the comparisons, of which scanning reports 0. The listing
+ * one writes down every pair within the radius, so that it needs room for them and is refused with 13 where it has too little; it is the quick
+ * one. The scanning one is for panels without that memory: it goes over the spots and the predictions (the directions that a round predicts on the
+ * panel) again for each match, so that a round takes at most
+ *    (matches + 1) x free spots x free predictions
+ * distances, of about 1 nanosecond each on a desktop processor. A spot or prediction is free until it is matched, or has nothing free within the
+ * radius any more. With 64 spots and 256 predictions that is at most 1.1 million distances, and 0.3 ms where every spot has many predictions in
+ * reach; with 128 and 512 it was 6 ms then, with 256 and 1,024 15 ms, with 512 and 2,048 0.7 s, and at the full limits it could be 10^12 distances.
+ * Choose it up to 128 spots and 512 directions; above, lend the listing one its room. Either way distances and indices, where they are lent, are
+ * zero afterwards.
+ *
  * Refused with 5 to 11, 14 or 17, numbers, floats, distances, indices and result are as they came. Refused with 12 or 13, result is as it came and
  * the other four are zero from first place to last. Accepted, result starts with the matches and is unchanged after them, and the other four are
  * zero. spots, matches, directions and rotation are only read. counts and values take the answer: refused, they are zero. */
@@ -81,7 +94,7 @@ size_t raqembu_wcs_refine(
     const size_t *matches, size_t matches_len,
     const float *directions, size_t directions_len,
     const float *rotation, size_t rotation_len,
-    double scale, bool mirror, float radius, double cut, size_t limit, size_t rounds,
+    double scale, bool mirror, float radius, double cut, size_t limit, size_t rounds, bool scanning,
     size_t *numbers, size_t numbers_len,
     double *floats, size_t floats_len,
     double *distances, size_t distances_len,
@@ -122,6 +135,18 @@ size_t raqembu_greedy_unique_matches(
     const double *predicted, size_t predicted_len, double radius_sq,
     double *distances, size_t distances_len,
     size_t *indices, size_t indices_len,
+    size_t *work, size_t work_len,
+    size_t *counts, size_t counts_len);
+
+/* The same matches in the same sequence without candidate lists, found by scanning: at most (matches + 1) x free points x free predictions
+ * distances, which see above. Returns 0, or 11 where `work` is too short for one mark for each point within max_points and each prediction, and two
+ * places for each match that there may be; never 13.
+ *
+ * Accepted, the matches stand in work after its marks, which are zero, as above. Refused, work is as it came. counts takes the answer, 2 places for
+ * the number of matches and that of comparisons, which is 0: refused, both are zero. */
+size_t raqembu_greedy_unique_matches_by_scanning(
+    const double *points, size_t points_len, size_t max_points,
+    const double *predicted, size_t predicted_len, double radius_sq,
     size_t *work, size_t work_len,
     size_t *counts, size_t counts_len);
 

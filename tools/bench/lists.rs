@@ -1,4 +1,4 @@
-//! Compares the median and the matcher with the reference Rust, value by value, and then times them beside it, in one run.
+//! Compares the median and both matchers with the reference Rust, value by value, and then times them beside it, in one run.
 use std::hint::black_box;
 use std::time::Instant;
 
@@ -13,6 +13,10 @@ extern "C" {
         points: *const f64, points_len: usize, max_points: usize, predicted: *const f64, predicted_len: usize, radius_sq: f64,
         distances: *mut f64, distances_len: usize, indices: *mut usize, indices_len: usize, work: *mut usize, work_len: usize,
         counts: *mut usize, counts_len: usize,
+    ) -> usize;
+    fn raqembu_greedy_unique_matches_by_scanning(
+        points: *const f64, points_len: usize, max_points: usize, predicted: *const f64, predicted_len: usize, radius_sq: f64,
+        work: *mut usize, work_len: usize, counts: *mut usize, counts_len: usize,
     ) -> usize;
 }
 
@@ -48,6 +52,18 @@ fn matches_here(points: &[f64], predicted: &[f64], radius_sq: f64, lent: &mut Le
     };
     assert_eq!(refusal, 0);
     counts
+}
+
+/// The number answered by the matcher that scans, and its counts.
+fn scanned_here(points: &[f64], limit: usize, predicted: &[f64], radius_sq: f64, work: &mut [usize]) -> (usize, [usize; 2]) {
+    let mut counts = [7; 2];
+    let number = unsafe {
+        raqembu_greedy_unique_matches_by_scanning(
+            points.as_ptr(), points.len(), limit, predicted.as_ptr(), predicted.len(), radius_sq,
+            work.as_mut_ptr(), work.len(), counts.as_mut_ptr(), counts.len(),
+        )
+    };
+    (number, counts)
 }
 
 /// The reference's matches, and the comparisons that are counted beside it.
@@ -109,6 +125,45 @@ fn medians(random: &mut Random) {
     report("median of 4,096", times);
 }
 
+/// Small frames for the matcher that scans: on a grid, so that distances tie, or anywhere, now and then with a coordinate that is no number or
+/// infinite; with any limit and radius, and a work list that is long enough, one place longer, or one short. Its matches, its marks and what stands
+/// behind them are held to the reference.
+fn scans(random: &mut Random) {
+    let (mut bad, mut short, mut matched) = (0, 0, 0);
+    for frame in 0..60_000 {
+        let mut below = |n: usize| (random.next() * n as f64) as usize;
+        let [spots, predictions, limit, grid] = [below(9), below(9), below(11), below(3)];
+        let [odd, room, radius] = [below(6), below(20), below(9)];
+        let mut place = || if grid > 0 { (random.next() * 4.0).floor() } else { random.next() * 4.0 };
+        let mut points: Vec<f64> = (0..2 * spots).map(|_| place()).collect();
+        let predicted: Vec<f64> = (0..2 * predictions).map(|_| place()).collect();
+        if odd == 0 && spots > 0 {
+            points[frame % (2 * spots)] = [f64::NAN, f64::INFINITY, -0.0][frame % 3];
+        }
+        let radius_sq = [0.0, 1.0, 2.0, 4.0, 5.0, 0.5, 100.0, f64::INFINITY, f64::NAN][radius];
+        let within = spots.min(limit);
+        let needed = within + predictions + 2 * within.min(predictions);
+        let places = if room == 0 { needed.saturating_sub(1) } else { needed + room % 2 };
+        let was: Vec<usize> = (0..places).map(|i| i ^ 0x5A5A).collect();
+        let mut work = was.clone();
+        let (number, counts) = scanned_here(&points, limit, &predicted, radius_sq, &mut work);
+        if places < needed {
+            short += 1;
+            bad += ((number, counts, &work) != (11, [0; 2], &was)) as usize;
+            continue;
+        }
+        let tuples: Vec<(f64, f64)> = points.chunks(2).map(|p| (p[0], p[1])).collect();
+        let named: Vec<(usize, f64, f64)> = predicted.chunks(2).enumerate().map(|(i, p)| (i, p[0], p[1])).collect();
+        let there = counted::greedy_unique_matches(&tuples, limit, &named, radius_sq, &mut counted::MatchScratch::default()).to_vec();
+        let mut due = vec![0; within + predictions];
+        due.extend(there.iter().flat_map(|m| [m.0, m.1]));
+        due.extend(&was[due.len()..]);
+        matched += there.len();
+        bad += ((number, counts, work) != (0, [there.len(), 0], due)) as usize;
+    }
+    println!("scans: {bad} of 60000 differ, {short} with too short a work list, {matched} matches");
+}
+
 fn matcher(random: &mut Random, spots: usize, predictions: usize, half: f64, radius: f64, runs: usize) {
     let points = random.points(spots, half);
     let predicted = random.points(predictions, half);
@@ -128,11 +183,23 @@ fn matcher(random: &mut Random, spots: usize, predictions: usize, half: f64, rad
         || { black_box(greedy_unique_matches(&tuples, usize::MAX, &named, radius * radius, &mut scratch).len()); },
     );
     report(&name, times);
+    if spots <= 256 {
+        let scan = || { black_box(scanned_here(&points, usize::MAX, &predicted, radius * radius, &mut lent.work)); };
+        let times = both(
+            runs.min(200),
+            scan,
+            || { black_box(greedy_unique_matches(&tuples, usize::MAX, &named, radius * radius, &mut scratch).len()); },
+        );
+        report(&format!("{name}, by scanning"), times);
+    }
 }
 
 fn main() {
     let mut random = Random(0x9E37_79B9_7F4A_7C15);
     medians(&mut random);
+    scans(&mut random);
     matcher(&mut random, 64, 256, 500.0, 20.0, 2000);
+    matcher(&mut random, 64, 256, 500.0, 200.0, 2000);
+    matcher(&mut random, 256, 1024, 500.0, 20.0, 200);
     matcher(&mut random, 4096, 8192, 2000.0, 10.0, 20);
 }

@@ -23,7 +23,7 @@ extern "C" {
         matches: *const usize, matches_len: usize,
         directions: *const f32, directions_len: usize,
         rotation: *const f32, rotation_len: usize,
-        scale: f64, mirror: bool, radius: f32, cut: f64, limit: usize, rounds: usize,
+        scale: f64, mirror: bool, radius: f32, cut: f64, limit: usize, rounds: usize, scanning: bool,
         numbers: *mut usize, numbers_len: usize,
         floats: *mut f64, floats_len: usize,
         distances: *mut f64, distances_len: usize,
@@ -31,6 +31,22 @@ extern "C" {
         result: *mut usize, result_len: usize,
         counts: *mut usize, counts_len: usize,
         values: *mut f64, values_len: usize,
+    ) -> usize;
+
+    fn raqembu_greedy_unique_matches(
+        points: *const f64, points_len: usize, max_points: usize,
+        predicted: *const f64, predicted_len: usize, radius_sq: f64,
+        distances: *mut f64, distances_len: usize,
+        indices: *mut usize, indices_len: usize,
+        work: *mut usize, work_len: usize,
+        counts: *mut usize, counts_len: usize,
+    ) -> usize;
+
+    fn raqembu_greedy_unique_matches_by_scanning(
+        points: *const f64, points_len: usize, max_points: usize,
+        predicted: *const f64, predicted_len: usize, radius_sq: f64,
+        work: *mut usize, work_len: usize,
+        counts: *mut usize, counts_len: usize,
     ) -> usize;
 }
 
@@ -69,6 +85,16 @@ pub struct Setting {
     /// only the first so many spots are matched
     pub limit: usize,
     pub rounds: usize,
+    pub matcher: Matcher,
+}
+
+/// What a call's rounds match with. The matches are the same.
+#[derive(Clone, Copy, Debug, PartialEq, Eq)]
+pub enum Matcher {
+    /// lists the candidate pairs, which have to fit into the lists lent for them: the quick one
+    Listing,
+    /// lists none, and goes over spots and predictions again for each match: for small panels
+    Scanning,
 }
 
 /// How much of each list a record filled, and its other numbers.
@@ -80,7 +106,8 @@ pub struct Header {
     pub setting: Setting,
 }
 
-/// Reads a record into the front of three lists: three places for a spot or a direction, two for a match. Refused, the lists are as they came.
+/// Reads a record into the front of three lists: three places for a spot or a direction, two for a match. Refused, the lists are as they came. A
+/// record names no matcher: it is the one that lists pairs, unless the caller changes it.
 pub fn read_record(bytes: &[u8], spots: &mut [f64], matches: &mut [usize], directions: &mut [f32]) -> Result<Header, Refusal> {
     let mut choices = [0; 6];
     let mut measures = [0.0; 3];
@@ -102,7 +129,8 @@ pub fn read_record(bytes: &[u8], spots: &mut [f64], matches: &mut [usize], direc
     accepted(number)?;
     let [spots, matches, directions, mirror, limit, rounds] = choices;
     let [scale, radius, cut] = measures;
-    let setting = Setting { rotation, scale, mirror: mirror == 1, radius: radius as f32, cut, limit, rounds };
+    let matcher = Matcher::Listing;
+    let setting = Setting { rotation, scale, mirror: mirror == 1, radius: radius as f32, cut, limit, rounds, matcher };
     Ok(Header { spots, matches, directions, setting })
 }
 
@@ -151,6 +179,7 @@ impl Lists<'_> {
                 directions.as_ptr(), directions.len(),
                 setting.rotation.as_ptr(), setting.rotation.len(),
                 setting.scale, setting.mirror, setting.radius, setting.cut, setting.limit, setting.rounds,
+                setting.matcher == Matcher::Scanning,
                 self.numbers.as_mut_ptr(), self.numbers.len(),
                 self.floats.as_mut_ptr(), self.floats.len(),
                 self.distances.as_mut_ptr(), self.distances.len(),
@@ -168,4 +197,62 @@ impl Lists<'_> {
         answer.cov.copy_from_slice(&values[9..18]);
         Ok(answer)
     }
+}
+
+/// How many matches stand in a work list behind its marks, point then prediction, and how often two pairs were compared.
+#[derive(Clone, Copy, Debug)]
+pub struct Matching {
+    pub matches: usize,
+    pub comparisons: usize,
+}
+
+/// Matches points with predictions, x and y of each, nearest pairs first, each at most once. `work` has a place for the mark of each point within
+/// `max_points` and of each prediction, and two for each match that there may be.
+pub fn greedy_unique_matches(
+    points: &[f64],
+    max_points: usize,
+    predicted: &[f64],
+    radius_sq: f64,
+    distances: &mut [f64],
+    indices: &mut [usize],
+    work: &mut [usize],
+) -> Result<Matching, Refusal> {
+    let mut counts = [0; 2];
+    // SAFETY: as above.
+    #[rustfmt::skip]
+    let number = unsafe {
+        raqembu_greedy_unique_matches(
+            points.as_ptr(), points.len(), max_points,
+            predicted.as_ptr(), predicted.len(), radius_sq,
+            distances.as_mut_ptr(), distances.len(),
+            indices.as_mut_ptr(), indices.len(),
+            work.as_mut_ptr(), work.len(),
+            counts.as_mut_ptr(), counts.len(),
+        )
+    };
+    accepted(number)?;
+    Ok(Matching { matches: counts[0], comparisons: counts[1] })
+}
+
+/// The same matches without candidate lists, for few points and predictions. It compares no pairs, and never finds too many.
+pub fn greedy_unique_matches_by_scanning(
+    points: &[f64],
+    max_points: usize,
+    predicted: &[f64],
+    radius_sq: f64,
+    work: &mut [usize],
+) -> Result<Matching, Refusal> {
+    let mut counts = [0; 2];
+    // SAFETY: as above.
+    #[rustfmt::skip]
+    let number = unsafe {
+        raqembu_greedy_unique_matches_by_scanning(
+            points.as_ptr(), points.len(), max_points,
+            predicted.as_ptr(), predicted.len(), radius_sq,
+            work.as_mut_ptr(), work.len(),
+            counts.as_mut_ptr(), counts.len(),
+        )
+    };
+    accepted(number)?;
+    Ok(Matching { matches: counts[0], comparisons: counts[1] })
 }

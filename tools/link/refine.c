@@ -8,7 +8,7 @@
 
 #include "raqembu.h"
 
-_Static_assert(RAQEMBU_VERSION == 4, "written for version 4 of raqembu.h");
+_Static_assert(RAQEMBU_VERSION == 5, "written for version 5 of raqembu.h");
 
 _Static_assert(sizeof(size_t) == 8, "size_t has 64 bits");
 
@@ -48,15 +48,18 @@ static void print_floats(const char *name, const double *list, size_t length)
     printf("\n");
 }
 
-int main(void)
+/* With the word `scanning` the matcher that lists no pairs is chosen, and lent no place for any. */
+int main(int argc, char **argv)
 {
+    bool scanning = argc > 1 && strcmp(argv[1], "scanning") == 0;
+    size_t pairs = scanning ? 0 : LENGTH(distances) / 2;
     size_t length = fread(record, 1, sizeof record, stdin);
     size_t refusal = raqembu_read_record(record, length, LENT(spots), LENT(matches), LENT(directions), LENT(choices), LENT(measures),
                                          LENT(rotation));
     if (refusal == 0) {
         refusal = raqembu_wcs_refine(spots, RAQEMBU_SPOT_NUMBERS * choices[0], matches, 2 * choices[1], directions, 3 * choices[2], LENT(rotation),
-                                     measures[0], choices[3] == 1, (float)measures[1], measures[2], choices[4], choices[5], LENT(numbers),
-                                     LENT(floats), LENT(distances), LENT(indices), LENT(result), LENT(counts), LENT(values));
+                                     measures[0], choices[3] == 1, (float)measures[1], measures[2], choices[4], choices[5], scanning, LENT(numbers),
+                                     LENT(floats), distances, 2 * pairs, indices, 4 * pairs, LENT(result), LENT(counts), LENT(values));
     }
     if (refusal != 0) {
         printf("no %zu\n", refusal);

@@ -6,7 +6,7 @@ mod raqembu;
 
 use std::io::{self, Read, Write};
 
-use raqembu::{read_record, Answer, Lists, Refusal, SPOT_NUMBERS};
+use raqembu::{read_record, Answer, Lists, Matcher, Refusal, SPOT_NUMBERS};
 
 const SPOTS: usize = 64;
 const MATCHES: usize = 64;
@@ -19,15 +19,17 @@ fn bits(list: &[f64]) -> String {
     list.iter().map(|x| format!(" {:016X}", bits_of(x))).collect()
 }
 
-/// The answer to a record, and its matches.
-fn refined(record: &[u8]) -> Result<(Answer, Vec<usize>), Refusal> {
+/// The answer to a record by a matcher, and its matches. The one that scans is lent no place for a pair.
+fn refined(record: &[u8], matcher: Matcher) -> Result<(Answer, Vec<usize>), Refusal> {
     let (mut spots, mut matches, mut directions) = ([0.0; SPOT_NUMBERS * SPOTS], [0; 2 * MATCHES], [0.0; 3 * DIRECTIONS]);
-    let h = read_record(record, &mut spots, &mut matches, &mut directions)?;
+    let mut h = read_record(record, &mut spots, &mut matches, &mut directions)?;
+    h.setting.matcher = matcher;
+    let pairs = if matcher == Matcher::Scanning { 0 } else { 2048 };
     let mut lists = Lists {
         numbers: &mut [0; WORKING],
         floats: &mut [0.0; WORKING],
-        distances: &mut [0.0; 4096],
-        indices: &mut [0; 8192],
+        distances: &mut [0.0; 4096][..2 * pairs],
+        indices: &mut [0; 8192][..4 * pairs],
         result: &mut [0; 2 * MATCHES],
     };
     let (spots, matches, directions) = (&spots[..SPOT_NUMBERS * h.spots], &matches[..2 * h.matches], &directions[..3 * h.directions]);
@@ -40,7 +42,8 @@ fn main() -> io::Result<()> {
     let mut record = Vec::new();
     io::stdin().lock().take(65_537).read_to_end(&mut record)?;
     let mut out = io::stdout().lock();
-    match refined(&record) {
+    let matcher = if std::env::args().nth(1).as_deref() == Some("scanning") { Matcher::Scanning } else { Matcher::Listing };
+    match refined(&record, matcher) {
         Err(refusal) => writeln!(out, "{refusal}"),
         Ok((a, matches)) => {
             writeln!(out, "ok {} {} {} {}", a.matches, a.rounds, a.passes, a.queries)?;

@@ -34,7 +34,7 @@ static void empty(void) {}
 static void refine(void)
 {
     answer = raqembu_wcs_refine(spots, RAQEMBU_SPOT_NUMBERS * spot_count, matches, 2 * spot_count, directions, 3 * direction_count, LENT(rotation),
-                                0x1p-12, false, 0x1p-10f, 1e-12, SIZE_MAX, 8, LENT(numbers), LENT(floats), LENT(distances), LENT(indices),
+                                0x1p-12, false, 0x1p-10f, 1e-12, SIZE_MAX, 8, false, LENT(numbers), LENT(floats), LENT(distances), LENT(indices),
                                 LENT(result), LENT(counts), LENT(values));
 }
 

@@ -147,7 +147,7 @@ static void run(unsigned n) {
     double values[18];
     size_t refusal = raqembu_wcs_refine(
         spots, RAQEMBU_SPOT_NUMBERS * spot_count, matches, 2 * match_count, directions, 3 * direction_count, rotation, 9,
-        scale, mirror, radius, cut, limit, rounds, numbers, places, floats, places,
+        scale, mirror, radius, cut, limit, rounds, false, numbers, places, floats, places,
         distances, 2 * pairs, indices, 4 * pairs, result, 2 * MOST_SPOTS, counts, 5, values, 18);
     if (!zero(numbers, 8 * places) || !zero(floats, 8 * places) || !zero(distances, 16 * pairs) || !zero(indices, 32 * pairs))
         printf("call %u: a list is not zero\n", n);

@@ -1,5 +1,5 @@
 # The calls of the rows: small, and together they go through several rounds, a second query, a cached one, clips, refusal 12, refusal 13, a
-# plane cut that takes a direction off the cached list, and weights: both ends, powers of two, a 3, and in the last call all 1.
+# plane cut that takes a direction off the cached list, the matcher without a list, and weights: both ends, powers of two, a 3, and in the last call all 1.
 # usage: python3 calls.py NAME            the record of a call, for a program that answers records
 #        python3 calls.py NAME answer     the model's answer to it, as such a program prints it
 import sys
@@ -30,6 +30,11 @@ def second_query():
 def many_pairs():
     c = second_query()
     return Call(c.spots, c.dirs, [], c.rotation, SCALE, False, nar(0.03), LEAST, 5, 2, 16, 16)
+
+# The same with the matcher that scans, which takes of the 16 pairs without a place for any.
+def no_list():
+    c = many_pairs()
+    return Call(c.spots, c.dirs, [], c.rotation, SCALE, False, c.radius, LEAST, 5, 2, 0, 0, scanning=True)
 
 # The spots lie so close together that the first pass turns the camera past 1,024.
 def far_turn():
@@ -65,7 +70,7 @@ def grazing():
     spots = weighted([placed(AHEAD, v, -0.03125, 0.0) for v in dirs[:4]] + [(3968.0, 0.0)], [1.0] * 5)
     return Call(spots, dirs, [(4, 4)], AHEAD, SCALE, False, nar(0.001), 0.25, 5, 3, 64, 128)
 
-CALLS = {'far_turn': far_turn, 'many_pairs': many_pairs, 'second_query': second_query, 'one_clip': one_clip, 'last_clip': last_clip,
+CALLS = {'far_turn': far_turn, 'many_pairs': many_pairs, 'no_list': no_list, 'second_query': second_query, 'one_clip': one_clip, 'last_clip': last_clip,
     'grazing': grazing}
 
 if __name__ == '__main__':

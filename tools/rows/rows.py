@@ -22,6 +22,7 @@ Rattle.fit.specs.declared.View View
 Rattle.fit.specs.declared.Counted Counted
 Rattle.entry.specs.Arguments Call
 Rattle.entry.specs.Fixed Fixed
+Rattle.entry.specs.declared.Matcher.TheVariants Listing Scanning
 Rattle.passes.specs.Fit fit_passes moved sound still
 Rattle.wcs_refine.specs.Clip statistics clipped taken
 Rattle.wcs_refine.specs.Associate adaptive_px
@@ -56,6 +57,7 @@ def matrix(m): return spread('(' + vector(r) + ')' for r in m)
 def whole(ns): return several(map(str, ns))
 def flat(ms): return whole(n for m in ms for n in m)
 def truth(b): return 'true' if b else 'false'
+def chosen(c): return 'Scanning' if c.scanning else 'Listing'
 def after(name, text): return name + ' =' + (text if text.startswith('\n') else ' ' + text)
 def record(pairs): return 'record {\n' + ''.join('  ' + after(n, str(t)).replace('\n', '\n  ') + ';\n' for n, t in pairs) + '}'
 def pose(p): return record(zip(('theta', 'ra', 'dec', 'scale'), map(number, p)))
@@ -108,7 +110,7 @@ class Writer:
         w.places = 16 * (len(c.spots) + len(c.matches) + len(c.dirs))
         lent = w.lists(7, 'one64', 5, result)
         given = record((('matches', flat(c.matches)), ('rotation', matrix(c.rotation)), ('scale', number(c.scale)), ('mirror', truth(c.mirror)),
-            ('radius', number(c.radius)), ('cut', number(c.cut)), ('limit', c.limit), ('rounds', c.rounds), ('lent', lent)))
+            ('radius', number(c.radius)), ('cut', number(c.cut)), ('limit', c.limit), ('rounds', c.rounds), ('matcher', chosen(c)), ('lent', lent)))
         call = record((('spots', 'spots'), ('directions', 'directions'), ('given', given)))
         w.out.append('-- The call, with its lent lists as they come.\nabbrev pub %s_call : Call\n%s\n' % (w.name, after(w.name + '_call', call)))
         for at, (n, vs) in enumerate((('spots', c.spots), ('directions', c.dirs))):
@@ -116,7 +118,7 @@ class Writer:
             w.out.insert(at, '-- The call\'s %s.\nabbrev %s : List Float\n%s =\n    %s\n' % (n, n, n, '\n    ∷ '.join(lines)))
         w.heading('what its run starts from')
         w.value('Fixed', 'k', record((('scale', number(c.scale)), ('mirror', truth(c.mirror)), ('radius', number(c.radius)),
-            ('limit', c.limit), ('count', len(c.dirs)), ('capacity', c.capacity), ('cut', number(c.cut)), ('far', number(c.far)))))
+            ('limit', c.limit), ('matcher', chosen(c)), ('count', len(c.dirs)), ('capacity', c.capacity), ('cut', number(c.cut)), ('far', number(c.far)))))
         p = w.value('Pose', 'pose_0', pose(c.start()))
         w.state = w.value('State', 'state_0', 'record { pose = %s; matches = %s; cache = empty }' % (p, flat(c.matches)))
         w.computed('begun', 'Begun %s_call k %s' % (w.name, w.state), 'checks', ('accepted', 'same', 'begins'), floats=False)
@@ -271,6 +273,7 @@ class Writer:
 CALLS = (
     ('far_turn', 'FarTurn', far_turn, 'A fit pass that turns the camera past 1,024: refusal 12.', list(range(31, 39))),
     ('many_pairs', 'ManyPairs', many_pairs, 'More pairs within the radius than the candidate lists hold: refusal 13.', list(range(31, 43))),
+    ('no_list', 'NoList', no_list, 'The same with the matcher that scans: it needs no place for a pair, and compares none.', list(range(31, 43))),
     ('second_query', 'SecondQuery', second_query,
         'Two rounds: the matches of the first turn the camera past the margin, and the second queries anew.', list(range(31, 43))),
     ('one_clip', 'OneClip', one_clip, 'A clip: one of six starting matches lies too far off, and five are left.', list(range(31, 45))),

@@ -6,6 +6,7 @@ use Rattle.entry.specs.Arguments.{Call}
 use Rattle.wcs_refine.specs.Call.{Outcome, no, ok, outcome, queries}
 use Rattle.calls.specs.FarTurn.{far_turn_call, far_turn_row, far_turn_listed}
 use Rattle.calls.specs.ManyPairs.{many_pairs_call, many_pairs_row, many_pairs_listed}
+use Rattle.calls.specs.NoList.{no_list_call, no_list_row, no_list_listed}
 use Rattle.calls.specs.SecondQuery.{second_query_call, second_query_row, second_query_listed}
 use Rattle.calls.specs.OneClip.{one_clip_call, one_clip_row, one_clip_listed}
 use Rattle.calls.specs.LastClip.{last_clip_call, last_clip_row, last_clip_listed}
@@ -56,6 +57,41 @@ many_pairs = record {
       distances = replicate 16 zero64;
       indices = replicate 16 0;
       result = 31 ∷ 32 ∷ 33 ∷ 34 ∷ 35 ∷ 36 ∷ 37 ∷ 38 ∷ 39 ∷ 40 ∷ 41 ∷ 42 ∷ [];
+    };
+  };
+  listed = (0 ∷ 1 ∷ 2 ∷ 3 ∷ []) ∷ [];
+}
+
+-- The same with the matcher that scans: it needs no place for a pair, and compares none.
+abbrev pub no_list : Row
+no_list = record {
+  call = no_list_call;
+  answered = record {
+    answer = ok (record {
+      pose = record {
+        theta = f64 0x3FAFEE30250A8C6D;
+        ra = f64 0xBEA4A65F0F4D73E6;
+        dec = f64 0x3EC81229209A47E9;
+        scale = f64 0x3F50000000000000;
+      };
+      cd =
+          (f64 0x3F4FF0131D3A8078 ∷ f64 0xBF0FE8E3F6340CF9 ∷ [])
+          ∷ (f64 0x3F0FE8E3F6340CF9 ∷ f64 0x3F4FF0131D3A8078 ∷ [])
+          ∷ [];
+      rms = f64 0x3EC52F3498084076;
+      covariance =
+          (f64 0x3E3BEAAECA8B0BCF ∷ f64 0xBDB6B8C3A5ABD96B ∷ f64 0xBDAAE9F8D8D78925 ∷ [])
+          ∷ (f64 0xBDB6B8C3A5ABD96B ∷ f64 0x3D676E40FBC85ECA ∷ f64 0x3D25E7D315B1164D ∷ [])
+          ∷ (f64 0xBDAAE9F8D8D78925 ∷ f64 0x3D25E7D315B1164D ∷ f64 0x3D65EE0A521798CB ∷ [])
+          ∷ [];
+      matches = 1 ∷ 1 ∷ 0 ∷ 0 ∷ 3 ∷ 3 ∷ 2 ∷ 2 ∷ [];
+    }) 2 4 1 0;
+    lent = record {
+      numbers = replicate 144 0;
+      floats = replicate 144 zero64;
+      distances = replicate 0 zero64;
+      indices = replicate 0 0;
+      result = 1 ∷ 1 ∷ 0 ∷ 0 ∷ 3 ∷ 3 ∷ 2 ∷ 2 ∷ 39 ∷ 40 ∷ 41 ∷ 42 ∷ [];
     };
   };
   listed = (0 ∷ 1 ∷ 2 ∷ 3 ∷ []) ∷ [];
@@ -203,13 +239,16 @@ grazing = record {
 
 -- The rows, in this order.
 abbrev pub rows : List Row
-rows = far_turn ∷ many_pairs ∷ second_query ∷ one_clip ∷ last_clip ∷ grazing ∷ []
+rows = far_turn ∷ many_pairs ∷ no_list ∷ second_query ∷ one_clip ∷ last_clip ∷ grazing ∷ []
 
 far_turn_holds : Holds far_turn
 far_turn_holds = record { answers = far_turn_row; lists = far_turn_listed }
 
 many_pairs_holds : Holds many_pairs
 many_pairs_holds = record { answers = many_pairs_row; lists = many_pairs_listed }
+
+no_list_holds : Holds no_list
+no_list_holds = record { answers = no_list_row; lists = no_list_listed }
 
 second_query_holds : Holds second_query
 second_query_holds = record { answers = second_query_row; lists = second_query_listed }
@@ -225,4 +264,4 @@ grazing_holds = record { answers = grazing_row; lists = grazing_listed }
 
 -- Every row holds.
 pub calls : All rows
-calls = (far_turn_holds, (many_pairs_holds, (second_query_holds, (one_clip_holds, (last_clip_holds, (grazing_holds, tt))))))
+calls = (far_turn_holds, (many_pairs_holds, (no_list_holds, (second_query_holds, (one_clip_holds, (last_clip_holds, (grazing_holds, tt)))))))

@@ -9,6 +9,7 @@ use Rattle.fit.specs.declared.View.{View}
 use Rattle.fit.specs.declared.Counted.{Counted}
 use Rattle.entry.specs.Arguments.{Call}
 use Rattle.entry.specs.Fixed.{Fixed}
+use Rattle.entry.specs.declared.Matcher.TheVariants.{Listing}
 use Rattle.passes.specs.Fit.{fit_passes, moved, sound, still}
 use Rattle.query.specs.Query.{empty}
 use Rattle.wcs_refine.specs.Round.{State, refuse, refused, loop, round}
@@ -53,6 +54,7 @@ far_turn_call = record {
     cut = f64 0x3D719799812DEA11;
     limit = 3;
     rounds = 2;
+    matcher = Listing;
     lent = record {
       numbers = replicate 144 7;
       floats = replicate 144 one64;
@@ -71,6 +73,7 @@ k = record {
   mirror = false;
   radius = f64 0x3F847AE140000000;
   limit = 3;
+  matcher = Listing;
   count = 3;
   capacity = 32;
   cut = f64 0x3D719799812DEA11;

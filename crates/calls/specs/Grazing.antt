@@ -14,6 +14,7 @@ use Rattle.fit.specs.declared.View.{View}
 use Rattle.fit.specs.declared.Counted.{Counted}
 use Rattle.entry.specs.Arguments.{Call}
 use Rattle.entry.specs.Fixed.{Fixed}
+use Rattle.entry.specs.declared.Matcher.TheVariants.{Listing}
 use Rattle.passes.specs.Fit.{fit_passes, moved, sound, still}
 use Rattle.wcs_refine.specs.Clip.{statistics, clipped}
 use Rattle.wcs_refine.specs.Associate.{adaptive_px}
@@ -66,6 +67,7 @@ grazing_call = record {
     cut = f64 0x3FD0000000000000;
     limit = 5;
     rounds = 3;
+    matcher = Listing;
     lent = record {
       numbers = replicate 176 7;
       floats = replicate 176 one64;
@@ -84,6 +86,7 @@ k = record {
   mirror = false;
   radius = f64 0x3F50624DE0000000;
   limit = 5;
+  matcher = Listing;
   count = 5;
   capacity = 32;
   cut = f64 0x3FD0000000000000;

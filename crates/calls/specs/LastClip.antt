@@ -14,6 +14,7 @@ use Rattle.fit.specs.declared.View.{View}
 use Rattle.fit.specs.declared.Counted.{Counted}
 use Rattle.entry.specs.Arguments.{Call}
 use Rattle.entry.specs.Fixed.{Fixed}
+use Rattle.entry.specs.declared.Matcher.TheVariants.{Listing}
 use Rattle.passes.specs.Fit.{fit_passes, moved, sound, still}
 use Rattle.wcs_refine.specs.Clip.{statistics, clipped, taken}
 use Rattle.wcs_refine.specs.Associate.{adaptive_px}
@@ -70,6 +71,7 @@ last_clip_call = record {
     cut = f64 0x3D719799812DEA11;
     limit = 7;
     rounds = 2;
+    matcher = Listing;
     lent = record {
       numbers = replicate 224 7;
       floats = replicate 224 one64;
@@ -88,6 +90,7 @@ k = record {
   mirror = false;
   radius = f64 0x3F689374C0000000;
   limit = 7;
+  matcher = Listing;
   count = 7;
   capacity = 32;
   cut = f64 0x3D719799812DEA11;

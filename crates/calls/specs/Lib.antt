@@ -4,6 +4,7 @@ pub mod Queried
 pub mod Steps
 pub mod FarTurn
 pub mod ManyPairs
+pub mod NoList
 pub mod SecondQuery
 pub mod OneClip
 pub mod LastClip

@@ -10,6 +10,7 @@ use Rattle.fit.specs.declared.Pose.{Pose}
 use Rattle.fit.specs.declared.View.{View}
 use Rattle.entry.specs.Arguments.{Call}
 use Rattle.entry.specs.Fixed.{Fixed}
+use Rattle.entry.specs.declared.Matcher.TheVariants.{Listing}
 use Rattle.passes.specs.Fit.{fit_passes}
 use Rattle.wcs_refine.specs.Clip.{statistics, clipped}
 use Rattle.wcs_refine.specs.Associate.{adaptive_px}
@@ -59,6 +60,7 @@ many_pairs_call = record {
     cut = f64 0x3D719799812DEA11;
     limit = 5;
     rounds = 2;
+    matcher = Listing;
     lent = record {
       numbers = replicate 144 7;
       floats = replicate 144 one64;
@@ -77,6 +79,7 @@ k = record {
   mirror = false;
   radius = f64 0x3F9EB851E0000000;
   limit = 5;
+  matcher = Listing;
   count = 4;
   capacity = 4;
   cut = f64 0x3D719799812DEA11;

@@ -14,6 +14,7 @@ use Rattle.fit.specs.declared.View.{View}
 use Rattle.fit.specs.declared.Counted.{Counted}
 use Rattle.entry.specs.Arguments.{Call}
 use Rattle.entry.specs.Fixed.{Fixed}
+use Rattle.entry.specs.declared.Matcher.TheVariants.{Listing}
 use Rattle.passes.specs.Fit.{fit_passes, moved, sound, still}
 use Rattle.wcs_refine.specs.Clip.{statistics, clipped}
 use Rattle.wcs_refine.specs.Associate.{adaptive_px}
@@ -67,6 +68,7 @@ one_clip_call = record {
     cut = f64 0x3D719799812DEA11;
     limit = 6;
     rounds = 2;
+    matcher = Listing;
     lent = record {
       numbers = replicate 288 7;
       floats = replicate 288 one64;
@@ -85,6 +87,7 @@ k = record {
   mirror = true;
   radius = f64 0x3F689374C0000000;
   limit = 6;
+  matcher = Listing;
   count = 6;
   capacity = 128;
   cut = f64 0x3D719799812DEA11;

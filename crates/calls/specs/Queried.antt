@@ -9,6 +9,7 @@ use Rattle.solve.specs.Vector.{at}
 use Rattle.panel.specs.Spots.{spot_at}
 use Rattle.fit.specs.Rows.{direction_at}
 use Rattle.entry.specs.Arguments.{Call}
+use Rattle.entry.specs.declared.Matcher.TheVariants.{Listing}
 use Rattle.entry.specs.Check.{between, every}
 use Rattle.wcs_refine.specs.Associate.{links}
 use Rattle.wcs_refine.specs.Call.{Outcome, no, outcome, queries}
@@ -24,7 +25,7 @@ little = f64 0x3F50000000000000
 
 -- The call of Instance.antt with n places for whole numbers and the second direction (1, v, 0), close to the camera's axis.
 abbrev pub aside : ℕ → Float → Call
-aside n v = with n (f64 0x4008000000000000) zero64 one64 one64 v
+aside n v = with Listing n (f64 0x4008000000000000) zero64 one64 one64 v
 
 -- One place short, the second direction a little to one side before and to the other after.
 abbrev pub before : Call

@@ -14,6 +14,7 @@ use Rattle.fit.specs.declared.View.{View}
 use Rattle.fit.specs.declared.Counted.{Counted}
 use Rattle.entry.specs.Arguments.{Call}
 use Rattle.entry.specs.Fixed.{Fixed}
+use Rattle.entry.specs.declared.Matcher.TheVariants.{Listing}
 use Rattle.passes.specs.Fit.{fit_passes, moved, sound, still}
 use Rattle.wcs_refine.specs.Clip.{statistics, clipped}
 use Rattle.wcs_refine.specs.Associate.{adaptive_px}
@@ -64,6 +65,7 @@ second_query_call = record {
     cut = f64 0x3D719799812DEA11;
     limit = 5;
     rounds = 3;
+    matcher = Listing;
     lent = record {
       numbers = replicate 144 7;
       floats = replicate 144 one64;
@@ -82,6 +84,7 @@ k = record {
   mirror = false;
   radius = f64 0x3F50624DE0000000;
   limit = 5;
+  matcher = Listing;
   count = 4;
   capacity = 32;
   cut = f64 0x3D719799812DEA11;

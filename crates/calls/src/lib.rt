@@ -9,5 +9,5 @@ ghost use Rattle.calls.specs.Calls.{rows};
 pub fn rows() -> u8
     ensures { result ≡ length rows }
 {
-    6
+    7
 }

@@ -1,6 +1,7 @@
 -- The arguments of a refinement call. Definitions only. Assumes nothing.
 use Rattle.std.specs.Prelude.{ℕ, ◌+◌, ◌*◌, ◌/◌, min, max, Bool, List, length, Float}
 use Rattle.panel.specs.Spots.{spot_numbers}
+use Rattle.entry.specs.declared.Matcher.{Matcher}
 
 -- "Lists written to are all that the call may write, here the result, working and candidate lists": the working lists of whole numbers and of
 -- floats, the distances and the indices of the candidate list, and the result list.
@@ -12,7 +13,7 @@ pub record Lent : Type 0 where
   pub result : List ℕ
 
 -- The arguments of `wcs_refine` beside spots and directions: starting matches, rotation, pixel scale, `parity_flip`, match radius, plane cut (02, CR 2:
--- "a number given with the call"), matching limit, most rounds, and the lent lists.
+-- "a number given with the call"), matching limit, most rounds, the matcher (CR 7: "The caller chooses the matcher"), and the lent lists.
 pub record Given : Type 0 where
   pub matches : List ℕ
   pub rotation : List (List Float)
@@ -22,6 +23,7 @@ pub record Given : Type 0 where
   pub cut : Float
   pub limit : ℕ
   pub rounds : ℕ
+  pub matcher : Matcher
   pub lent : Lent
 
 -- A call of `wcs_refine`. Its lists are flat: a spot is x, y and weight, a match a spot and a direction, a direction three components.

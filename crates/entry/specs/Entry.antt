@@ -16,6 +16,7 @@ fixed_of k = record {
   mirror = k.mirror;
   radius = k.radius;
   limit = k.limit;
+  matcher = k.matcher;
   count = k.count;
   capacity = k.capacity;
   cut = k.cut;

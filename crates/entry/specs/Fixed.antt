@@ -15,6 +15,7 @@ use Rattle.panel.specs.Spots.{spot_numbers, spot_at}
 use Rattle.panel.specs.declared.Spot.{Spot}
 use Rattle.fit.specs.declared.Pose.{Pose}
 use Rattle.entry.specs.Arguments.{Call, Given}
+use Rattle.entry.specs.declared.Matcher.{Matcher}
 
 -- 01: "A spot's distance .. is the rounded sqrt(x × x + y × y)."
 unfoldable pub distance : Spot → Float
@@ -27,26 +28,28 @@ unfolding distance spot_at max_f
 farthest spots i zero far = far
 farthest spots i (suc k) far = farthest spots (suc i) k (max_f far (distance (spot_at spots i)))
 
--- All that the rounds read beside spots, directions and their state: `ps`, `parity_flip`, `match_radius_rad as f64`, `max_match_centroids`, how
--- many directions there are, how many pairs the candidate lists hold, the plane cut, and `max_cent_dist_px`.
+-- All that the rounds read beside spots, directions and their state: `ps`, `parity_flip`, `match_radius_rad as f64`, `max_match_centroids`, the
+-- matcher, how many directions there are, how many pairs the candidate lists hold, the plane cut, and `max_cent_dist_px`.
 pub record Fixed : Type 0 where
   pub scale : Float
   pub mirror : Bool
   pub radius : Float
   pub limit : ℕ
+  pub matcher : Matcher
   pub count : ℕ
   pub capacity : ℕ
   pub cut : Float
   pub far : Float
 
 -- What the head of `wcs_refine` makes of its arguments. Of the directions and of the candidate lists only the lengths count.
-unfoldable pub fixed_from : List Float → ℕ → Float → Bool → Float → Float → ℕ → ℕ → ℕ → Fixed
+unfoldable pub fixed_from : List Float → ℕ → Float → Bool → Float → Float → ℕ → Matcher → ℕ → ℕ → Fixed
 unfolding farthest
-fixed_from spots directions scale mirror radius cut limit distances indices = record {
+fixed_from spots directions scale mirror radius cut limit matcher distances indices = record {
   scale = scale;
   mirror = mirror;
   radius = radius;
   limit = limit;
+  matcher = matcher;
   count = directions / 3;
   capacity = capacity_of distances indices;
   cut = cut;
@@ -58,7 +61,7 @@ unfoldable pub fixed : Call → Fixed
 unfolding fixed_from
 fixed c =
     fixed_from c.spots (length c.directions) c.given.scale c.given.mirror c.given.radius
-    c.given.cut c.given.limit (length c.given.lent.distances) (length c.given.lent.indices)
+    c.given.cut c.given.limit c.given.matcher (length c.given.lent.distances) (length c.given.lent.indices)
 
 -- 1.5, how much wider than the field is searched, and 3.0, how many margins beyond the field a direction stays cached
 abbrev pub field_factor : Float

@@ -4,7 +4,7 @@ ghost use Rattle.rounding.specs.Arith.{zero64};
 ghost use Rattle.entry.specs.Fixed.{farthest, fixed_from, start_pose_of, requery_margin, search_radius, requery_cos, radius_px, prune_r, margin_px, keep_r, theta_margin};
 ghost use Rattle.entry.specs.Entry.{fixed_of};
 
-use crate::Settings;
+use crate::{Matcher, Settings};
 use angles::{asin, atan2, cos};
 use fit::Pose;
 use panel::{SPOT_NUMBERS, spot_at};
@@ -35,10 +35,11 @@ pub fn settings_of(
     radius: f32,
     cut: f64,
     limit: usize,
+    matcher: Matcher,
     distances: usize,
     indices: usize,
 ) -> Settings
-    ensures { fixed_of result ≡ fixed_from spots.now directions scale mirror radius cut limit distances indices }
+    ensures { fixed_of result ≡ fixed_from spots.now directions scale mirror radius cut limit matcher distances indices }
 {
     // Those beyond the matching limit count too.
     let far = farthest_of(spots, spots.len() / SPOT_NUMBERS);
@@ -49,6 +50,7 @@ pub fn settings_of(
         mirror,
         radius: wide,
         limit,
+        matcher,
         count: directions / 3,
         capacity,
         cut,

@@ -14,6 +14,14 @@ pub use clearing::clear_all;
 pub use head::{farthest_of, settings_of, start_pose};
 pub use refusals::refusal_of;
 
+// The matcher of a call's rounds: the one that lists the candidate pairs, in the lists lent for them, or the one that lists none and goes over spots
+// and predictions again for each match.
+#[derive(Clone, Copy)]
+pub enum Matcher {
+    Listing,
+    Scanning,
+}
+
 // All that the rounds read beside spots, directions and their state, of `count` directions. No code reads `capacity`, since the matcher measures
 // its own lists: it stands here so that the settings mean a `Fixed` (`fixed_of` in specs/Entry.antt).
 // Stays (no plainer): a ghost field holds a fact; a number it holds only in a struct with `also_owns`, which cannot be copied, as the settings are.
@@ -23,6 +31,7 @@ pub struct Settings {
     pub mirror: bool,
     pub radius: f64,
     pub limit: usize,
+    pub matcher: Matcher,
     pub count: usize,
     pub capacity: usize,
     pub cut: f64,

@@ -1,5 +1,5 @@
--- What the exported matcher hands back, carried from what the matcher leaves. Assumes nothing.
-use Rattle.std.proofs.Common.{◌≡◌, ℕ, Bool, true, false, cond, ltb, List, length, refl, sym, ap₂, subst, ◌∙◌, set}
+-- What the exported matchers hand back, carried from what the matchers leave. Assumes nothing.
+use Rattle.std.proofs.Common.{◌≡◌, ℕ, Bool, true, false, cond, ltb, List, length, refl, sym, ap, ap₂, subst, ◌∙◌, set}
 use lib.Ieee.{Float}
 use Rattle.pairs.specs.Pairs.{pairs}
 use Rattle.pairs.specs.Candidates.{capacity}
@@ -15,7 +15,9 @@ use Rattle.refusal.specs.Number.{number_given}
 use Rattle.refusal.proofs.Passing.{has_number}
 use Rattle.matching.specs.Meant.{HandedBack}
 use Rattle.matching.proofs.Calls.{call_meant}
-use Rattle.exports.specs.Matches.{ExportedMatchesMeant}
+use Rattle.scanning.specs.Scanning.{greedy_by_scanning}
+use Rattle.scanning.proofs.Agreeing.{call_by_scanning_meant}
+use Rattle.exports.specs.Matches.{ExportedMatchesMeant, ExportedScanMeant}
 
 -- an answer whose number is 0 is one of so many matches
 matched : (a : Result ℕ Refusal) → 0 ≡ number_given a → (n : ℕ) × (a ≡ Ok n) × (count_of a ≡ n)
@@ -55,4 +57,12 @@ exported_matches_meant f r d d' ix w ix' w' counts counts' x zero =
       m.0,
       x.counted ∙ ap₂ (λ (n c : ℕ). set (set counts 0 n) 1 c) m.2 (compared f d ix w m.0 m.1),
       subst (HandedBack f m.0 (marks f.points f.limit f.predicted)) (sym x.work_after) (call_meant f d ix w m.0 m.1),
+    )
+
+pub exported_scan_meant : ExportedScanMeant
+exported_scan_meant f r w w' counts counts' x zero =
+    let m = matched (greedy_by_scanning f.points f.limit f.predicted f.radius_sq w).answer (sym zero ∙ x.number) in (
+      m.0,
+      x.counted ∙ ap (λ (n : ℕ). set (set counts 0 n) 1 0) m.2,
+      subst (HandedBack f m.0 (marks f.points f.limit f.predicted)) (sym x.work_after) (call_by_scanning_meant f w m.0 m.1),
     )

@@ -1,7 +1,8 @@
--- The median and the matcher as numbers and lists, for callers in C. Definitions only. Assumes nothing.
+-- The median and the matchers as numbers and lists, for callers in C. Definitions only. Assumes nothing.
 use Rattle.std.specs.Prelude.{◌≡◌, ℕ, List, set, Float}
 use Rattle.matching.specs.Greedy.{Outcome}
 use Rattle.matching.specs.Answer.{count_of}
+use Rattle.scanning.specs.Scanning.{Scan}
 use Rattle.refusal.specs.Number.{number_given}
 use Rattle.stats.specs.declared.MedianSigma.{MedianSigma}
 
@@ -18,3 +19,9 @@ pub record MatchedTo
   pub indices_after : indices ≡ o.indices
   pub work_after : work ≡ o.work
   pub counted : counts_after ≡ set (set counts_before 0 (count_of o.answer)) 1 o.comparisons
+
+-- A call of the matcher that scans, likewise: it makes no comparisons.
+pub record ScannedTo (o : Scan) (r : ℕ) (work counts_before counts_after : List ℕ) : Type 0 where
+  pub number : r ≡ number_given o.answer
+  pub work_after : work ≡ o.work
+  pub counted : counts_after ≡ set (set counts_before 0 (count_of o.answer)) 1 0

@@ -1,8 +1,10 @@
 -- The refinement call as numbers and lists, for callers in C. Definitions only. Assumes nothing.
-use Rattle.std.specs.Prelude.{◌≡◌, ℕ, suc, List, [], ◌∷◌, set, get_or, Float}
+use Rattle.std.specs.Prelude.{◌≡◌, ℕ, suc, Bool, true, false, List, [], ◌∷◌, set, get_or, Float}
 use Rattle.std.specs.Float.{nan}
 use Rattle.solve.specs.Vector.{entry}
 use Rattle.entry.specs.Arguments.{Call, Lent}
+use Rattle.entry.specs.declared.Matcher.{Matcher}
+use Rattle.entry.specs.declared.Matcher.TheVariants.{Listing, Scanning}
 use Rattle.wcs_refine.specs.Call.{outcome}
 use Rattle.wcs_refine.specs.Returned.{Values, returned}
 
@@ -13,6 +15,11 @@ rows_of l =
     ∷ (get_or l 3 nan ∷ get_or l 4 nan ∷ get_or l 5 nan ∷ [])
     ∷ (get_or l 6 nan ∷ get_or l 7 nan ∷ get_or l 8 nan ∷ [])
     ∷ []
+
+-- 02, CR 7: "The caller chooses the matcher": true for the one that scans.
+unfoldable pub matcher_of : Bool → Matcher
+matcher_of true = Scanning
+matcher_of false = Listing
 
 -- Matches, rounds, passes, queries, and the most comparisons of a round.
 abbrev pub counts : Values → List ℕ

@@ -2,9 +2,10 @@
 ghost use Rattle.std.specs.Prelude.{◌≡◌};
 ghost use Rattle.refusal.specs.Number.{number_given};
 ghost use Rattle.wcs_refine.specs.Returned.{lists, called, numbered, handed};
-ghost use Rattle.exports.specs.Refined.{rows_of, counts, values, set_from, RefinedTo};
+ghost use Rattle.exports.specs.Refined.{rows_of, matcher_of, counts, values, set_from, RefinedTo};
 
 use crate::places::put_all;
+use entry::Matcher;
 use panel::three_at;
 use refusal::{Refusal, number_given};
 use wcs_refine::WcsRefineResult;
@@ -18,6 +19,18 @@ fn rotation_of(entries: &[f32]) -> [[f32; 3]; 3]
     let y = three_at(entries, 1, f32::NAN);
     let z = three_at(entries, 2, f32::NAN);
     [x, y, z]
+}
+
+// The matcher that a truth value chooses.
+#[tactic(auto, unfolding(crate::specs::Refined::matcher_of))]
+fn matcher_of(scanning: bool) -> Matcher
+    ensures { result ≡ matcher_of scanning }
+{
+    if scanning {
+        Matcher::Scanning
+    } else {
+        Matcher::Listing
+    }
 }
 
 // Beside the number of a refusal "pose and counts are zero".
@@ -53,7 +66,7 @@ fn put_values(l: &mut [f64], r: &WcsRefineResult)
     );
 }
 
-// The number of the refusal, or 0. `spots` has x, y and weight of each, `rotation` nine entries, by rows. `counts` takes matches, rounds, passes,
+// The number of the refusal, or 0. `spots` has x, y and weight of each, `rotation` nine entries, by rows; `scanning` chooses the matcher. `counts` takes matches, rounds, passes,
 // queries and the most comparisons of a round; `values` takes theta, RA, Dec, scale, the matrix, the error and the covariance: 5 and 18 places, or as many
 // as the lists have.
 // Stays (C interface): a list is a pointer and a length each.
@@ -69,6 +82,7 @@ pub extern "C" fn raqembu_wcs_refine(
     cut: f64,
     limit: usize,
     rounds: usize,
+    scanning: bool,
     numbers: &mut [usize],
     floats: &mut [f64],
     distances: &mut [f64],
@@ -79,7 +93,7 @@ pub extern "C" fn raqembu_wcs_refine(
 ) -> usize
     ensures { RefinedTo
         (called spots.now matches.now directions.now (rows_of rotation.now)
-        scale mirror radius cut limit rounds
+        scale mirror radius cut limit rounds (matcher_of scanning)
         (lists numbers.old floats.old distances.old
         indices.old result_list.old))
         result
@@ -98,6 +112,7 @@ pub extern "C" fn raqembu_wcs_refine(
         cut,
         limit,
         rounds,
+        matcher_of(scanning),
         numbers,
         floats,
         distances,

@@ -1,9 +1,10 @@
-// Two parts of the refinement that other firmware calls by themselves, the median and the matcher. A list passes as a pointer and a length.
+// Parts of the refinement that other firmware calls by themselves, the median and the two matchers. A list passes as a pointer and a length.
 ghost use Rattle.std.specs.Prelude.{◌≡◌, length, replicate};
 ghost use Rattle.rounding.specs.Arith.{zero64};
 ghost use Rattle.stats.specs.Median.{median_mad_sigma};
 ghost use Rattle.matching.specs.Greedy.{greedy_unique_matches};
-ghost use Rattle.exports.specs.Parts.{MatchedTo, two_places};
+ghost use Rattle.scanning.specs.Scanning.{greedy_by_scanning};
+ghost use Rattle.exports.specs.Parts.{MatchedTo, ScannedTo, two_places};
 
 use crate::places::put_all;
 use refusal::number_given;
@@ -45,4 +46,25 @@ pub extern "C" fn raqembu_greedy_unique_matches(
     let count = m.matched.unwrap_or(0);
     put_all(counts, &[count, m.comparisons]);
     number_given(m.matched)
+}
+
+// The same matches without candidate lists: 0, or 11, too short a `work`. It orders no pairs, so that the second place of `counts` is given 0.
+#[unsafe(no_mangle)]
+pub extern "C" fn raqembu_greedy_unique_matches_by_scanning(
+    points: &[f64],
+    max_points: usize,
+    predicted: &[f64],
+    radius_sq: f64,
+    work: &mut [usize],
+    counts: &mut [usize],
+) -> usize
+    ensures { ScannedTo
+        (greedy_by_scanning points.now max_points predicted.now radius_sq work.old)
+        result work.new counts.old counts.new }
+{
+    let matched = scanning::greedy_unique_matches_by_scanning(
+        points, max_points, predicted, radius_sq, work,
+    );
+    put_all(counts, &[matched.unwrap_or(0), 0]);
+    number_given(matched)
 }

@@ -23,10 +23,10 @@ flat_many (m ∷ ms) = omega (arith, flat_many ms)
 too_many : (n : ℕ) → ◌≡◌ {A = Result ℕ Refusal} (Err ManyPairs) (Ok n) → ⊥
 too_many n h = cc
 
-short : (n : ℕ) → ◌≡◌ {A = Result ℕ Refusal} (Err ShortList) (Ok n) → ⊥
+pub short : (n : ℕ) → ◌≡◌ {A = Result ℕ Refusal} (Err ShortList) (Ok n) → ⊥
 short n h = cc
 
-counted : (m n : ℕ) → ◌≡◌ {A = Result ℕ Refusal} (Ok m) (Ok n) → m ≡ n
+pub counted : (m n : ℕ) → ◌≡◌ {A = Result ℕ Refusal} (Ok m) (Ok n) → m ≡ n
 counted m n h = cc
 
 module _ (f : Frame) where
@@ -37,7 +37,7 @@ module _ (f : Frame) where
   marked = marks f.points f.limit f.predicted
 
   -- what stands in front is as long as it says, so behind it stands the list
-  left : (n from : ℕ) (work front rest : List ℕ) → length front ≡ from → work ≡ front ++ (flat list ++ rest) → length list ≡ n → HandedBack f n from work
+  pub left : (n from : ℕ) (work front rest : List ℕ) → length front ≡ from → work ≡ front ++ (flat list ++ rest) → length list ≡ n → HandedBack f n from work
   left n from work front rest long is many = record {
     list = list;
     the = matcher_meant f;

@@ -85,7 +85,7 @@ module _ (f : Frame) where
           subst (λ (i : ℕ). Has (pair_of m) (within f.radius_sq (here i) rest)) (sym (eqb-true j m.prediction e)) (within_first (pair_of m) rest h)
       by false e next = let d = eqb-false j m.prediction e in within_rest (here j) (pair_of m) rest (next (omega arith) (omega arith))
 
-  from_has : (m : Match) → le (apart f m) f.radius_sq ≡ true → m.prediction < length f.predicted / 2 → (i k : ℕ) → i ≤ m.spot → m.spot < i + k
+  pub from_has : (m : Match) → le (apart f m) f.radius_sq ≡ true → m.prediction < length f.predicted / 2 → (i k : ℕ) → i ≤ m.spot → m.spot < i + k
       → Has (pair_of m) (pairs_from f.radius_sq f.points f.predicted i k)
   unfolding pairs_from
   from_has m h q i zero a b = absurd (omega arith)
@@ -121,7 +121,7 @@ module _ (f : Frame) where
       merged_has (pairs_from f.radius_sq f.points f.predicted 0 count) (pair_of m)
       (from_has m h.distance h.prediction 0 count (omega arith) (omega (arith, h.spot)))
 
-  good_near : (p : Pair) → Good p → Near f (match_of p)
+  pub good_near : (p : Pair) → Good p → Near f (match_of p)
   unfolding match_of
   good_near p g = record { spot = g.spot; prediction = g.prediction; distance = rw (← g.distance) g.near }
 

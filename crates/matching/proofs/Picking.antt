@@ -8,7 +8,7 @@ use Rattle.matching.proofs.Members.{Has, all_has, has_all, Chain}
 pub both_ways : {b : Bool} → b ≡ true → b ≡ false → ⊥
 both_ways h k = false≢true (sym k ∙ h)
 
-either_way : {C : Type 0} (b : Bool) → (b ≡ true → C) → (b ≡ false → C) → C
+pub either_way : {C : Type 0} (b : Bool) → (b ≡ true → C) → (b ≡ false → C) → C
 either_way true f g = f refl
 either_way false f g = g refl
 
@@ -26,11 +26,11 @@ module _ {A : Type 0} (share : A → A → Bool) where
   abbrev pub Free : A → A → Type 0
   Free x y = share y x ≡ false
 
-  picked_clash : (taken : List A) (x : A) (l : List A) → clash x taken ≡ true → picked taken (x ∷ l) ≡ picked taken l
+  pub picked_clash : (taken : List A) (x : A) (l : List A) → clash x taken ≡ true → picked taken (x ∷ l) ≡ picked taken l
   unfolding picked
   picked_clash taken x l e = rw e
 
-  picked_free : (taken : List A) (x : A) (l : List A) → clash x taken ≡ false → picked taken (x ∷ l) ≡ x ∷ picked (x ∷ taken) l
+  pub picked_free : (taken : List A) (x : A) (l : List A) → clash x taken ≡ false → picked taken (x ∷ l) ≡ x ∷ picked (x ∷ taken) l
   unfolding picked
   picked_free taken x l e = rw e
 
@@ -42,11 +42,11 @@ module _ {A : Type 0} (share : A → A → Bool) where
   unfolding clash
   clash_more x y taken h k = or_from (share x y) (clash x taken) h k
 
-  clash_first : (x y : A) (taken : List A) → share x y ≡ true → clash x (y ∷ taken) ≡ true
+  pub clash_first : (x y : A) (taken : List A) → share x y ≡ true → clash x (y ∷ taken) ≡ true
   unfolding clash
   clash_first x y taken h = or_left (share x y) (clash x taken) h
 
-  clash_rest : (x y : A) (taken : List A) → clash x taken ≡ true → clash x (y ∷ taken) ≡ true
+  pub clash_rest : (x y : A) (taken : List A) → clash x taken ≡ true → clash x (y ∷ taken) ≡ true
   unfolding clash
   clash_rest x y taken h = or_right (share x y) (clash x taken) h
 

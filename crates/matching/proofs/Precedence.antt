@@ -24,7 +24,7 @@ use Rattle.matching.proofs.Nearness.{count, pair_of, in_order, Good, all_good}
 holds : {b : Bool} → b ≡ true → T b
 holds h = subst T (sym h) tt
 
-same_match : (m n : Match) → m.spot ≡ n.spot → m.prediction ≡ n.prediction → m ≡ n
+pub same_match : (m n : Match) → m.spot ≡ n.spot → m.prediction ≡ n.prediction → m ≡ n
 same_match m n e f = λ i. record { spot = e i; prediction = f i }
 
 module _ (f : Frame) where
@@ -70,7 +70,7 @@ module _ (f : Frame) where
       (or_cases (ltb m.spot n.spot) _ v.1))
       (or_cases (lt (apart f m) (apart f n)) _ h)
 
-  near_measured : (m : Match) → Near f m → Measured (pair_of f m)
+  pub near_measured : (m : Match) → Near f m → Measured (pair_of f m)
   near_measured m h = at_most (apart f m) f.radius_sq h.distance
 
   pub through : (x y z : Match) → Near f x → Near f y → Near f z → Earlier f x y → Earlier f y z → Earlier f x z
@@ -88,7 +88,7 @@ module _ (f : Frame) where
 
   -- ---- the pairs in order are a chain of matches
 
-  good_pair : (p : Pair) → Good f p → p ≡ pair_of f (match_of p)
+  pub good_pair : (p : Pair) → Good f p → p ≡ pair_of f (match_of p)
   unfolding match_of
   good_pair p g = λ i. record { d2 = g.distance i; spot = p.spot; prediction = p.prediction }
 

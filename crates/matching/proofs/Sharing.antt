@@ -64,7 +64,7 @@ mapped_all P Q f (p ∷ ps) h = more (match_of p) (mapped ps) (f p (all_head P h
 
 -- ---- what is assigned is what is picked
 
-clashes_clash : (p : Pair) (ms : List Match) → clashes p ms ≡ clash share (match_of p) ms
+pub clashes_clash : (p : Pair) (ms : List Match) → clashes p ms ≡ clash share (match_of p) ms
 unfolding clashes clash share match_of
 clashes_clash p [] = refl
 clashes_clash p (m ∷ ms) =

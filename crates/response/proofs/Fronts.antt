@@ -9,6 +9,7 @@ use lib.Ieee.{Float}
 use Rattle.std.specs.Prelude.{Result}
 use Rattle.panel.specs.Spots.{spot_numbers}
 use Rattle.entry.specs.Arguments.{Call, Lent}
+use Rattle.entry.specs.declared.Matcher.TheVariants.{Listing}
 use Rattle.wcs_refine.specs.Call.{outcome}
 use Rattle.refusal.specs.declared.Refusal.{Refusal}
 use Rattle.wcs_refine.specs.declared.WcsRefineResult.{WcsRefineResult}
@@ -34,7 +35,7 @@ front k l {n} e =
 
 -- The call on the fronts is the one that the header asks for.
 abbrev with_header : Header → Lent → List Float → List ℕ → List Float → Call
-with_header h lent ss ms ds = called ss ms ds h.rotation h.scale h.mirror h.radius h.cut h.limit h.rounds lent
+with_header h lent ss ms ds = called ss ms ds h.rotation h.scale h.mirror h.radius h.cut h.limit h.rounds Listing lent
 
 pub on_fronts : (h : Header) (ss : List Float) (ms : List ℕ) (ds : List Float) (lent : Lent) (r : Result WcsRefineResult Refusal) {s m d : ℕ} {after : Lent}
     → s ≡ min (spot_numbers * h.spots) (length ss) → m ≡ min (2 * h.matches) (length ms) → d ≡ min (3 * h.directions) (length ds)

@@ -3,6 +3,7 @@
 use Rattle.std.specs.Prelude.{ℕ, ◌*◌, cond, List, ltb, take, Float}
 use Rattle.panel.specs.Spots.{spot_numbers}
 use Rattle.entry.specs.Arguments.{Call, Lent}
+use Rattle.entry.specs.declared.Matcher.TheVariants.{Listing}
 use Rattle.wcs_refine.specs.Call.{outcome}
 use Rattle.wcs_refine.specs.Returned.{Returned, returned, called}
 use Rattle.record.specs.Header.{Intake, read_record}
@@ -16,7 +17,7 @@ pub record Response : Type 0 where
   pub directions : List Float
   pub lent : Lent
 
--- The call that a record asks for, on as much of the lists as it fills.
+-- The call that a record asks for, on as much of the lists as it fills. A record names no matcher: it is the one that lists pairs, so that 13 can come.
 abbrev pub asked : Intake → Lent → Call
 asked i lent =
     called
@@ -30,6 +31,7 @@ asked i lent =
     i.header.cut
     i.header.limit
     i.header.rounds
+    Listing
     lent
 
 -- "Then a line `m`, spot, direction for each match": the matches stand at the front of the result list.

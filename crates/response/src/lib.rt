@@ -10,6 +10,7 @@ ghost use Rattle.response.specs.Printed.{Printed};
 
 mod program; // program.rt: the lists of the program `refine`
 
+use entry::Matcher;
 use panel::SPOT_NUMBERS;
 use printing::{print_answer, print_refusal};
 pub use program::{record_room, respond_alone};
@@ -24,7 +25,7 @@ fn places(each: usize, count: usize, most: usize) -> usize
     each.saturating_mul(count).min(most)
 }
 
-// The call that a header asks for, on the fronts of longer lists, as long as the header's counts say.
+// The call that a header asks for, with the matcher that lists pairs, on the fronts of longer lists, as long as the header's counts say.
 // Stays (no plainer): only `respond` and this take the lists, each once, and hand them on one by one.
 fn call(
     h: Header,
@@ -59,6 +60,7 @@ fn call(
         h.cut,
         h.limit,
         h.rounds,
+        Matcher::Listing,
         numbers,
         floats,
         distances,

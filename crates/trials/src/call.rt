@@ -1,5 +1,6 @@
 // A call of the refinement, and what is written of a trial: its name, and after it a number.
 use crate::LEAST_CUT;
+use entry::Matcher;
 use refusal::{Refusal, number_given};
 use wcs_refine::{WcsRefineResult, wcs_refine};
 
@@ -15,6 +16,7 @@ pub(crate) struct Call<'a> {
     pub cut: f64,
     pub limit: usize,
     pub rounds: usize,
+    pub matcher: Matcher,
     pub numbers: usize,
     pub floats: usize,
     pub distances: usize,
@@ -34,6 +36,7 @@ pub(crate) fn lawful<'a>() -> Call<'a> {
         cut: LEAST_CUT,
         limit: 1,
         rounds: 1,
+        matcher: Matcher::Listing,
         numbers: 64,
         floats: 64,
         distances: 8,
@@ -76,6 +79,7 @@ impl Call<'_> {
             self.cut,
             self.limit,
             self.rounds,
+            self.matcher,
             numbers,
             floats,
             distances,

@@ -5,7 +5,7 @@ mod bounds; // bounds.rt: refusals 5 to 11 and 14
 mod weights; // weights.rt: refusal 17
 mod afterwards; // afterwards.rt: the lists after refusals 14 and 17
 mod cuts; // cuts.rt: directions at the cut
-mod runs; // runs.rt: refusals 12 and 13
+mod runs; // runs.rt: refusals 12 and 13, with either matcher
 mod two_calls; // two_calls.rt: two calls that differ
 mod call; // call.rt: a call, and what is written of a trial
 

@@ -1,6 +1,7 @@
 // Two calls that differ in a few places. Where every premise of the theorem about two calls holds, they answer alike; for each premise there
 // are two calls that break just that one, and they do not.
 use crate::call::{Call, ahead};
+use entry::Matcher;
 use refusal::Refusal;
 use rounding::{from_bits, to_bits};
 use wcs_refine::WcsRefineResult;
@@ -52,6 +53,14 @@ fn base<'a>() -> Varied<'a> {
 fn starting<'a>(v: Varied<'a>, matches: &'a [usize]) -> Varied<'a> {
     Varied {
         given: Call { matches, ..v.given },
+        ..v
+    }
+}
+
+// With this matcher.
+fn chosen<'a>(v: Varied<'a>, matcher: Matcher) -> Varied<'a> {
+    Varied {
+        given: Call { matcher, ..v.given },
         ..v
     }
 }
@@ -111,13 +120,19 @@ fn place(r: WcsRefineResult) -> [u64; 3] {
     [to_bits(p.theta), to_bits(p.ra), to_bits(p.dec)]
 }
 
+pub(crate) fn same_bits(
+    a: Result<WcsRefineResult, Refusal>,
+    b: Result<WcsRefineResult, Refusal>,
+) -> bool {
+    match (a, b) {
+        (Ok(x), Ok(y)) => counts(x) == counts(y) && place(x) == place(y),
+        (Err(x), Err(y)) => x == y,
+        _ => false,
+    }
+}
+
 fn alike(a: Ended, b: Ended) -> bool {
-    a.last == b.last
-        && match (a.said, b.said) {
-            (Ok(x), Ok(y)) => counts(x) == counts(y) && place(x) == place(y),
-            (Err(x), Err(y)) => x == y,
-            _ => false,
-        }
+    a.last == b.last && same_bits(a.said, b.said)
 }
 
 // Whether the answers are alike.
@@ -129,6 +144,13 @@ fn compare(rt: &HostRuntime, name: &str, v: Varied<'_>, w: Varied<'_>) {
 
 pub(crate) fn all(rt: &HostRuntime) {
     let v = base();
+    each_premise(rt, v);
+    let _ = println!(rt; "two calls with the matcher that scans");
+    each_premise(rt, chosen(v, Matcher::Scanning));
+    compare(rt, "another matcher", v, chosen(v, Matcher::Scanning));
+}
+
+fn each_premise(rt: &HostRuntime, v: Varied<'_>) {
     compare(
         rt,
         "an unseen spot and an unseen direction",
@@ -180,7 +202,7 @@ fn spots(rt: &HostRuntime, v: Varied<'_>) {
     let w = Varied {
         given: Call {
             limit: 6,
-            ..given()
+            ..v.given
         },
         ..v
     };
@@ -296,7 +318,7 @@ fn others(rt: &HostRuntime, v: Varied<'_>) {
         Varied {
             given: Call {
                 radius: 0.0005,
-                ..given()
+                ..v.given
             },
             ..v
         },

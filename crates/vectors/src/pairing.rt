@@ -1,4 +1,4 @@
-// The matcher, by name, in its plain form and by strips. The numbers are the limit, the squared radius, spots, and predictions with their
+// The matcher, by name, in its plain form, by strips and by scanning. The numbers are the limit, the squared radius, spots, and predictions with their
 // directions, each list after its count; `within_capacity` has the lengths of the candidate lists before them. The answer ends with how many
 // comparisons the ordering of the pairs took.
 ghost use Rattle.std.specs.Prelude.{◌≤◌};
@@ -8,6 +8,7 @@ use crate::line::Asked;
 use crate::word::{at, count_at, list};
 use matching::{Matching, greedy_unique_matches, greedy_unique_matches_by_strips};
 use refusal::Refusal;
+use scanning::greedy_unique_matches_by_scanning;
 use std::array;
 
 // A question of the matcher: the numbers of its line, with room for so many distances and indices of candidates, and what stands before the matches
@@ -38,19 +39,41 @@ pub(crate) fn answer(asked: Asked<'_>) -> Option<&[usize]> {
         },
         _ => return None,
     };
-    both(question, e)
+    every_form(question, e)
 }
 
-// Both forms have to come to the same; by strips there are two places for each spot before the marks.
-fn both<'e>(q: Question<'_>, e: &'e [usize]) -> Option<&'e [usize]> {
+// All forms have to come to the same; by strips there are two places for each spot before the marks.
+fn every_form<'e>(q: Question<'_>, e: &'e [usize]) -> Option<&'e [usize]> {
     let spots = at::<usize>(q.numbers, 0).min(count_at(q.numbers, 2));
     let plain = formed(q, greedy_unique_matches, spots, e)?;
     let strips = formed(q, greedy_unique_matches_by_strips, 3 * spots, e)?;
-    if plain.len() == strips.len() {
+    let scan = scanned(q, spots, plain, e)?;
+    if plain.len() == strips.len() && plain.len() == scan.len() {
         Some(plain)
     } else {
         None
     }
+}
+
+// Scanning has no capacity to exceed, and makes no comparisons: those of the answer stand in for its own.
+fn scanned<'e>(
+    q: Question<'_>,
+    spots: usize,
+    plain: &'e [usize],
+    e: &'e [usize],
+) -> Option<&'e [usize]>
+    requires { spots ≤ 96 }
+{
+    if !q.before.is_empty() {
+        return Some(plain);
+    }
+    let told = e.len() - plain.len().min(e.len());
+    let comparisons = *e[..told].last()?;
+    let form = |points: &[f64], limit: usize, predicted: &[f64], radius_sq: f64, _distances: &mut [f64], _indices: &mut [usize], work: &mut [usize]| Matching {
+        matched: greedy_unique_matches_by_scanning(points, limit, predicted, radius_sq, work),
+        comparisons,
+    };
+    formed(q, form, spots, e)
 }
 
 // The matches stand behind so many places and the marks of the predictions.

@@ -1,12 +1,10 @@
 -- The answers of the association: refused, the state as it came, or with the new matches. Assumes nothing.
-use Rattle.std.proofs.Common.{◌≡◌, ℕ, ◌+◌, ◌-◌, ◌*◌, ◌/◌, ◌<◌, ◌≤◌, Bool, true, false, cond, not, ◌&&◌, ltb, leb, List, ◌++◌, length, get_or, take, drop, sym, refl, ap, ◌∙◌, subst, arith, length-append, length-drop, get_or-drop, get_or-take, take-take, take_at, get_or-append-add, ext_get_or, le-leb}
+use Rattle.std.proofs.Common.{◌≡◌, ℕ, ◌+◌, ◌-◌, ◌*◌, ◌/◌, ◌<◌, ◌≤◌, Bool, true, false, cond, not, ◌&&◌, leb, List, ◌++◌, length, get_or, take, drop, sym, refl, ap, ◌∙◌, subst, arith, length-append, length-drop, get_or-drop, get_or-take, take-take, take_at, get_or-append-add, ext_get_or, le-leb}
 use borrow.Author.Tests.{lt-leb}
 use lib.Seq.{slice, length-slice}
 use lib.Ieee.{Float}
 use Rattle.rounding.specs.Arith.{◌⊗◌}
 use Rattle.pairs.specs.Pairs.{pairs}
-use Rattle.matching.specs.Merge.{not_after}
-use Rattle.matching.specs.Comparisons.{comparisons}
 use Rattle.matching.specs.Greedy.{Match, flat, matches_of}
 use Rattle.pairs.specs.Candidates.{capacity}
 use Rattle.fit.specs.declared.Pose.{Pose}
@@ -15,7 +13,7 @@ use Rattle.entry.specs.Entry.{fixed_of}
 use Rattle.query.specs.Query.{Cache, Prediction}
 use Rattle.wcs_refine.specs.Associate.{laid, renamed, same_matches}
 use Rattle.wcs_refine.specs.Listing.{renamed_by}
-use Rattle.wcs_refine.specs.Round.{State, Next, go, done, refuse, settled, associated, compared}
+use Rattle.wcs_refine.specs.Round.{State, Next, go, done, refuse, settled, too_many, ordering, associated, compared}
 use Rattle.wcs_refine.specs.Keeping.{cache_of, held_cache, held_matches, held_state, next_of, Fits, Predicted, StepAs, AssociatedTo}
 use Rattle.wcs_refine.specs.Comparing.{Kept, Comparable, Compared, NewAt, Tallied, FoundTo}
 use Rattle.wcs_refine.specs.declared.associating.Tally.{Tally}
@@ -112,7 +110,7 @@ with_used h n = record {
 
 module _ (k : Settings) (n q : ℕ) (spots floats d : List Float) (ix before : List ℕ) (h : Held) (r : Float) (after : List ℕ) (f : Result Tally Refusal)
     (lent : k.capacity ≡ capacity d ix) (room : length spots / 2 + q ≤ n) (many : 16 * n ≤ length before) (fits : Fits k n h) (few : k.count ≤ n)
-    (w : FoundTo n q spots k.limit r floats d ix before after f) where
+    (w : FoundTo k.matcher n q spots k.limit r floats d ix before after f) where
   abbrev points : List Float
   points = slice (2 * n) (2 * n + 2 * q) floats
 
@@ -125,10 +123,10 @@ module _ (k : Settings) (n q : ℕ) (spots floats d : List Float) (ix before : L
   abbrev wanted : List Prediction → Next
   wanted qs = associated (fixed_of k) spots h.pose (held_matches h before) (held_cache n h before) r qs
 
-  over_is : (qs : List Prediction) → Predicted n q before floats qs → ltb k.capacity (length (pairs spots k.limit (laid qs) (r ⊗ r))) ≡ is_err f
+  over_is : (qs : List Prediction) → Predicted n q before floats qs → too_many k.matcher k.capacity (length (pairs spots k.limit (laid qs) (r ⊗ r))) ≡ is_err f
   over_is qs p =
-      ap (λ (m : ℕ). ltb m (length (pairs spots k.limit (laid qs) (r ⊗ r)))) lent
-      ∙ ap (λ (l : List Float). ltb (capacity d ix) (length (pairs spots k.limit l (r ⊗ r)))) p.points ∙ sym w.full
+      ap (λ (m : ℕ). too_many k.matcher m (length (pairs spots k.limit (laid qs) (r ⊗ r)))) lent
+      ∙ ap (λ (l : List Float). too_many k.matcher (capacity d ix) (length (pairs spots k.limit l (r ⊗ r)))) p.points ∙ sym w.full
 
   new_is : (qs : List Prediction) → Predicted n q before floats qs → renamed qs (matches_of spots k.limit (laid qs) (r ⊗ r)) ≡ new
   new_is qs p =
@@ -153,8 +151,8 @@ module _ (k : Settings) (n q : ℕ) (spots floats d : List Float) (ix before : L
     e : is_err f ≡ false
     e = ap is_err some
 
-    told : Tallied n q spots k.limit r floats before after t
-    told = subst (λ (x : Result Tally Refusal). IfOk x (Tallied n q spots k.limit r floats before after)) some w.found
+    told : Tallied k.matcher n q spots k.limit r floats before after t
+    told = subst (λ (x : Result Tally Refusal). IfOk x (Tallied k.matcher n q spots k.limit r floats before after)) some w.found
 
     abbrev at : NewAt n t.within t.count new before after
     at = told.there
@@ -163,8 +161,8 @@ module _ (k : Settings) (n q : ℕ) (spots floats d : List Float) (ix before : L
     compared_is : (qs : List Prediction) → Predicted n q before floats qs → t.comparisons ≡ compared (fixed_of k) spots r qs
     unfolding compared
     compared_is qs p =
-        told.comparisons ∙ ap (λ (l : List Float). comparisons not_after (pairs spots k.limit l (r ⊗ r))) (sym p.points)
-        ∙ ap (λ (b : Bool). cond b 0 (comparisons not_after (pairs spots k.limit (laid qs) (r ⊗ r)))) (sym (over_is qs p ∙ e))
+        told.comparisons ∙ ap (λ (l : List Float). ordering k.matcher (pairs spots k.limit l (r ⊗ r))) (sym p.points)
+        ∙ ap (λ (b : Bool). cond b 0 (ordering k.matcher (pairs spots k.limit (laid qs) (r ⊗ r)))) (sym (over_is qs p ∙ e))
 
     new_many : length new ≡ 2 * t.count
     new_many = omega (arith, renamed_many (slice (3 * n) (3 * n + q) before) found, told.count)

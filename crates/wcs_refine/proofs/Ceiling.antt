@@ -13,10 +13,12 @@ use Rattle.fit.specs.declared.Pose.{Pose}
 use Rattle.entry.specs.Arguments.{Call}
 use Rattle.entry.specs.Check.{refusal}
 use Rattle.entry.specs.Fixed.{Fixed, fixed}
+use Rattle.entry.specs.declared.Matcher.{Matcher}
+use Rattle.entry.specs.declared.Matcher.TheVariants.{Listing, Scanning}
 use Rattle.query.specs.Query.{Cache, empty, full, query, drifted, Prediction, predictions}
 use Rattle.wcs_refine.specs.Clip.{clipped}
 use Rattle.wcs_refine.specs.Associate.{laid}
-use Rattle.wcs_refine.specs.Round.{State, Next, go, done, refuse, Found, compared, fresh, reused, searched, rest, fitted, round, Ending, refused, ended, Run, carry, loop}
+use Rattle.wcs_refine.specs.Round.{State, Next, go, done, refuse, Found, too_many, ordering, compared, fresh, reused, searched, rest, fitted, round, Ending, refused, ended, Run, carry, loop}
 use Rattle.wcs_refine.specs.Closing.{Closed, unsound, fine, cleaned}
 use Rattle.wcs_refine.specs.Call.{start, run_of, closed, finished, answer_after, answer, outcome}
 use Rattle.wcs_refine.specs.Returned.{refused_with, accepted, handed, values_of, Returned, returned}
@@ -26,6 +28,12 @@ use Rattle.wcs_refine.proofs.Along.{either}
 
 -- ---- the comparisons on so many predictions
 
+-- the matcher that scans makes none
+ordering_within : (m : Matcher) (ps : List Pair) (n : ℕ) → comparisons not_after ps ≤ n → ordering m ps ≤ n
+unfolding ordering
+ordering_within Listing ps n h = h
+ordering_within Scanning ps n h = omega arith
+
 module _ (k : Fixed) (points : List Float) (r : Float) (qs : List Prediction) where
   abbrev near : List Pair
   near = pairs points k.limit (laid qs) (r ⊗ r)
@@ -33,20 +41,24 @@ module _ (k : Fixed) (points : List Float) (r : Float) (qs : List Prediction) wh
   compared_least : (b : ℕ) → LeastPower (length near) b → compared k points r qs ≤ length near * b
   unfolding compared
   compared_least b h =
-      either (λ (c : ℕ). c ≤ length near * b) (ltb k.capacity (length near)) 0 (comparisons not_after near) (omega arith)
-      (ceiling Pair not_after near b h)
+      either (λ (c : ℕ). c ≤ length near * b) (too_many k.matcher k.capacity (length near)) 0 (ordering k.matcher near) (omega arith)
+      (ordering_within k.matcher near (length near * b) (ceiling Pair not_after near b h))
 
   -- where they are more than the candidate lists hold, none are put in order
   compared_held : (b : ℕ) → k.capacity ≤ 2 ^ b → compared k points r qs ≤ k.capacity * b
-  unfolding compared
-  compared_held b h = by (ltb k.capacity (length near)) refl
+  unfolding compared too_many ordering
+  compared_held b h = by k.matcher
     where
-      by : (x : Bool) → ltb k.capacity (length near) ≡ x → cond x 0 (comparisons not_after near) ≤ k.capacity * b
-      by true e = omega arith
-      by false e =
+      listed : (x : Bool) → ltb k.capacity (length near) ≡ x → cond x 0 (comparisons not_after near) ≤ k.capacity * b
+      listed true e = omega arith
+      listed false e =
           let few : length near ≤ k.capacity = ltb-false k.capacity (length near) e in
           let reaches : length near ≤ 2 ^ b = omega arith in
           omega (arith, at_most_power not_after near b reaches, mul-le-mul_right b few)
+
+      by : (m : Matcher) → cond (too_many m k.capacity (length near)) 0 (ordering m near) ≤ k.capacity * b
+      by Listing = listed (ltb k.capacity (length near)) refl
+      by Scanning = omega arith
 
 -- ---- a round
 

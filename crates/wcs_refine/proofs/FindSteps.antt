@@ -1,16 +1,18 @@
 -- What the matcher leaves in its part of the list of whole numbers, and where its matches stand once they are renamed. Assumes nothing.
-use Rattle.std.proofs.Common.{◌≡◌, ℕ, ◌+◌, ◌-◌, ◌*◌, ◌/◌, ◌<◌, ◌≤◌, min, Bool, true, false, cond, ltb, List, ◌++◌, length, get_or, take, drop, replicate, sym, refl, ap, ◌∙◌, subst, append_assoc, arith, length-append, length-drop, length-take, length-take-le, get_or-take, take-take, take_at, get_or-append-add, take-add, drop_at, le-ltb}
+use Rattle.std.proofs.Common.{◌≡◌, ℕ, ◌+◌, ◌-◌, ◌*◌, ◌/◌, ◌<◌, ◌≤◌, min, Bool, true, false, cond, List, ◌++◌, length, get_or, take, drop, replicate, sym, refl, ap, ◌∙◌, subst, append_assoc, arith, length-append, length-drop, length-take, length-take-le, get_or-take, take-take, take_at, get_or-append-add, take-add, drop_at}
 use lib.ListN.{length-replicate, get_or-replicate, replicate-append-replicate, get_or-append}
 use lib.Seq.{slice, length-slice, drop-drop}
 use lib.Ieee.{Float}
 use Rattle.pairs.specs.Pairs.{pairs, spots_within}
-use Rattle.matching.specs.Merge.{not_after}
-use Rattle.matching.specs.Comparisons.{comparisons}
-use Rattle.matching.specs.Greedy.{Match, flat, matches_of, placed, overfull, Outcome, greedy_unique_matches, greedy_by_strips}
+use Rattle.matching.specs.Greedy.{Match, flat, matches_of, placed, overfull, Outcome}
 use Rattle.pairs.specs.Candidates.{capacity}
+use Rattle.entry.specs.declared.Matcher.{Matcher}
+use Rattle.wcs_refine.specs.Round.{too_many, ordering}
+use Rattle.wcs_refine.specs.Choosing.{chosen}
+use Rattle.wcs_refine.proofs.ChosenSteps.{outcome_of, listed_pairs, chosen_is}
 use Rattle.std.specs.Prelude.{Result, Ok, Err}
 use Rattle.refusal.specs.declared.Refusal.{Refusal}
-use Rattle.refusal.specs.declared.Refusal.TheVariants.{ManyPairs, ShortList}
+use Rattle.refusal.specs.declared.Refusal.TheVariants.{ManyPairs}
 use Rattle.wcs_refine.specs.Listing.{renamed_by}
 use Rattle.wcs_refine.specs.Keeping.{points_at}
 use Rattle.wcs_refine.specs.Comparing.{NewAt}
@@ -49,18 +51,15 @@ module _ (n k : ℕ) (floats : List Float) (fits : 4 * n + 2 * k ≤ length floa
   pub at_many : length (points_at n k floats) / 2 ≡ k
   at_many = omega (arith, length-slice (4 * n) (4 * n + 2 * k) floats fits)
 
-  pub on_points : (limit : ℕ) (qs : List Float) (r2 : Float) (d : List Float) (ix w : List ℕ) {o : Outcome}
-      → o ≡ greedy_by_strips (take (4 * n + 2 * k - 4 * n) (drop (4 * n) floats)) limit qs r2 d ix w
-      → o ≡ greedy_by_strips (points_at n k floats) limit qs r2 d ix w
-  on_points limit qs r2 d ix w did =
-      did ∙ ap (λ (x : List Float). greedy_by_strips x limit qs r2 d ix w) (part_is (4 * n) (4 * n + 2 * k) floats (omega arith) fits)
+  pub on_points : (matcher : Matcher) (limit : ℕ) (qs : List Float) (r2 : Float) (d : List Float) (ix w : List ℕ) {o : Outcome}
+      → o ≡ chosen matcher (take (4 * n + 2 * k - 4 * n) (drop (4 * n) floats)) limit qs r2 d ix w
+      → o ≡ chosen matcher (points_at n k floats) limit qs r2 d ix w
+  on_points matcher limit qs r2 d ix w did =
+      did ∙ ap (λ (x : List Float). chosen matcher x limit qs r2 d ix w) (part_is (4 * n) (4 * n + 2 * k) floats (omega arith) fits)
 
 -- ---- the matcher's answer
 
-abbrev outcome_of : Result ℕ Refusal → ℕ → List Float → List ℕ → List ℕ → Outcome
-outcome_of x m d ix w = record { answer = x; comparisons = m; distances = d; indices = ix; work = w }
-
-module _ (n q : ℕ) (spots : List Float) (limit : ℕ) (floats : List Float) (r2 : Float) (d : List Float) (ix o : List ℕ)
+module _ (matcher : Matcher) (n q : ℕ) (spots : List Float) (limit : ℕ) (floats : List Float) (r2 : Float) (d : List Float) (ix o : List ℕ)
     (room : length spots / 2 + q ≤ n) (many : 16 * n ≤ length o) (far : 16 * n ≤ length floats) where
   abbrev points : List Float
   points = slice (2 * n) (2 * n + 2 * q) floats
@@ -76,10 +75,10 @@ module _ (n q : ℕ) (spots : List Float) (limit : ℕ) (floats : List Float) (r
 
   -- the comparisons that put its pairs in order
   abbrev compared : ℕ
-  compared = comparisons not_after (pairs spots limit points r2)
+  compared = ordering matcher (pairs spots limit points r2)
 
   abbrev over : Bool
-  over = ltb (capacity d ix) (length (pairs spots limit points r2))
+  over = too_many matcher (capacity d ix) (length (pairs spots limit points r2))
 
   points_many : length points / 2 ≡ q
   points_many = omega (arith, length-slice (2 * n) (2 * n + 2 * q) floats (omega arith))
@@ -95,21 +94,17 @@ module _ (n q : ℕ) (spots : List Float) (limit : ℕ) (floats : List Float) (r
   behind_strips z = outcome_of z.answer z.comparisons z.distances z.indices (replicate (2 * within) 0 ++ z.work)
 
   abbrev fitted : Outcome
-  fitted = placed (within + length points / 2) (length (pairs spots limit points r2)) compared found d ix inner
+  fitted = placed (within + length points / 2) (listed_pairs matcher (pairs spots limit points r2)) compared found d ix inner
 
   module _ {x : Result ℕ Refusal} {m : ℕ} {d' : List Float} {ix' w : List ℕ}
-      (did : outcome_of x m d' ix' w ≡ greedy_by_strips spots limit (take (2 * n + 2 * q - 2 * n) (drop (2 * n) floats)) r2 d ix work) where
+      (did : outcome_of x m d' ix' w ≡ chosen matcher spots limit (take (2 * n + 2 * q - 2 * n) (drop (2 * n) floats)) r2 d ix work) where
     enough : 2 * within + (within + length points / 2 + 2 * min within (length points / 2)) ≤ length work
     enough = omega (arith, points_many, work_many)
 
     told : outcome_of x m d' ix' w ≡ behind_strips (cond over (overfull d ix inner) fitted)
-    unfolding greedy_by_strips greedy_unique_matches
     told =
-        did ∙ ap (λ (z : List Float). greedy_by_strips spots limit z r2 d ix work) (part_is (2 * n) (2 * n + 2 * q) floats (omega arith) (omega arith))
-        ∙ ap (λ (b : Bool). cond b (outcome_of (Err ShortList) 0 d ix work) (behind_strips (greedy_unique_matches spots limit points r2 d ix inner)))
-        (le-ltb (length work) (2 * within + (within + length points / 2 + 2 * min within (length points / 2))) enough)
-        ∙ ap (λ (b : Bool). behind_strips (cond b (outcome_of (Err ShortList) 0 d ix inner) (cond over (overfull d ix inner) fitted)))
-        (le-ltb (length inner) (within + length points / 2 + 2 * min within (length points / 2)) (omega (arith, enough, length-drop (2 * within) work)))
+        did ∙ ap (λ (z : List Float). chosen matcher spots limit z r2 d ix work) (part_is (2 * n) (2 * n + 2 * q) floats (omega arith) (omega arith))
+        ∙ chosen_is spots limit points r2 d ix work matcher enough
 
     if_over : over ≡ true → x ≡ Err ManyPairs
     unfolding overfull
@@ -136,8 +131,8 @@ module _ (n q : ℕ) (spots : List Float) (limit : ℕ) (floats : List Float) (r
         ∙ ap (λ (k : ℕ). replicate k 0 ++ flat found ++ rest) all
 
     -- a refusal: too many pairs
-    pub too_many : {u : Refusal} → x ≡ Err u → (true ≡ over) × (u ≡ ManyPairs)
-    too_many {u} h = by over refl
+    pub too_many_pairs : {u : Refusal} → x ≡ Err u → (true ≡ over) × (u ≡ ManyPairs)
+    too_many_pairs {u} h = by over refl
       where
         by : (b : Bool) → over ≡ b → (true ≡ b) × (u ≡ ManyPairs)
         by true e = let f : x ≡ Err ManyPairs = if_over e in (refl, cc)

@@ -27,8 +27,13 @@ pub mod CallEnds
 pub mod SameLinks
 pub mod TableSteps
 pub mod NewMatches
+pub mod ChosenSteps
 pub mod FindSteps
 pub mod AssociateSteps
 pub mod RoundPlaces
 pub mod RoundMeaning
 pub mod Ceiling
+pub mod SameButMatcher
+pub mod ScanningRuns
+pub mod ScanningCall
+pub mod Choice

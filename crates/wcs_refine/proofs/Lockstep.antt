@@ -1,6 +1,6 @@
 -- Two runs with the same fixed values, the same spots within the limit, and the same directions and spots wherever a match names or a query lists them,
 -- go through the same states: one round, and the loop. Assumes nothing.
-use Rattle.std.proofs.Common.{◌≡◌, ℕ, zero, suc, ◌/◌, ◌<◌, Bool, true, false, cond, not, ◌&&◌, ltb, leb, List, [], ◌∷◌, length, refl, ap, ◌∙◌, subst, arith}
+use Rattle.std.proofs.Common.{◌≡◌, ℕ, zero, suc, ◌/◌, ◌<◌, Bool, true, false, cond, not, ◌&&◌, leb, List, [], ◌∷◌, length, refl, ap, ◌∙◌, subst, arith}
 use lib.Ieee.{Float}
 use Rattle.rounding.specs.Arith.{◌⊗◌}
 use Rattle.pairs.specs.Pairs.{pairs}
@@ -16,7 +16,7 @@ use Rattle.query.specs.Query.{Cache, empty, full, query, drifted, Prediction, pr
 use Rattle.panel.specs.Points.{within_limit, points_of}
 use Rattle.panel.proofs.Laying.{points_same}
 use Rattle.wcs_refine.specs.Associate.{adaptive_px, laid, renamed, same_matches}
-use Rattle.wcs_refine.specs.Round.{State, Next, go, done, refuse, Found, Round, settled, associated, compared, fresh, reused, searched, rest, fitted, round, Ending, refused, ended, Run, carry, loop}
+use Rattle.wcs_refine.specs.Round.{State, Next, go, done, refuse, Found, Round, settled, too_many, associated, compared, fresh, reused, searched, rest, fitted, round, Ending, refused, ended, Run, carry, loop}
 use Rattle.wcs_refine.proofs.Along.{All, all-++, either}
 use Rattle.wcs_refine.proofs.Remaining.{Predicts, found_all, clipped_all, predictions_all, pruned_all}
 use Rattle.wcs_refine.proofs.Points.{points_within}
@@ -61,7 +61,7 @@ module _ (sa sb da db : List Float) where
     associated_shared p ms c r qs hm hc hq =
         let new = renamed qs (matches_of (seen sa) k.limit (laid qs) (r ⊗ r)) in
         let hn : Shared sa sb da db new = found_all (SameSpot sa sb) Q (seen sa) k.limit qs (r ⊗ r) (λ n l. near n (omega (arith, points_within sa k.limit))) hq in
-        either NextShared (ltb k.capacity (length (pairs (seen sa) k.limit (laid qs) (r ⊗ r)))) (refuse 13) (settled p ms c new) tt
+        either NextShared (too_many k.matcher k.capacity (length (pairs (seen sa) k.limit (laid qs) (r ⊗ r)))) (refuse 13) (settled p ms c new) tt
         (either NextShared (leb 4 (length new / 2) && not (same_matches new ms)) (go (record { pose = p; matches = new; cache = c })) (done (record { pose = p; matches = ms; cache = c }))
         (record { matches = hn; cache = hc }) (record { matches = hm; cache = hc }))
 

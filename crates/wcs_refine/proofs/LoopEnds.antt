@@ -1,7 +1,7 @@
 -- Where the loop ends: in a state with no more matches than the start, or than spots within the limit, or with a refusal. Assumes nothing.
 use Rattle.stats.specs.declared.MedianSigma.{MedianSigma}
 use Rattle.std.specs.Prelude.{Option, Some, None}
-use Rattle.std.proofs.Common.{◌≡◌, ℕ, zero, suc, ◌+◌, ◌*◌, ◌/◌, ◌≤◌, Bool, true, false, not, ◌&&◌, ltb, leb, List, [], length, refl, arith, length-take}
+use Rattle.std.proofs.Common.{◌≡◌, ℕ, zero, suc, ◌+◌, ◌*◌, ◌/◌, ◌≤◌, Bool, true, false, not, ◌&&◌, leb, List, [], length, refl, arith, length-take}
 use lib.Ieee.{Float}
 use Rattle.rounding.specs.Arith.{◌⊗◌}
 use Rattle.pairs.specs.Pairs.{pairs}
@@ -16,7 +16,7 @@ use Rattle.wcs_refine.specs.Clip.{statistics, taken, clipped}
 use Rattle.query.specs.Query.{Cache, empty, full, query, drifted, Prediction, predictions, pruned}
 use Rattle.panel.specs.Points.{within_limit, points_of}
 use Rattle.wcs_refine.specs.Associate.{adaptive_px, laid, renamed, same_matches}
-use Rattle.wcs_refine.specs.Round.{State, Next, go, done, refuse, Found, settled, associated, fresh, reused, searched, rest, fitted, round, Ending, refused, ended, Run, carry, loop}
+use Rattle.wcs_refine.specs.Round.{State, Next, go, done, refuse, Found, settled, too_many, associated, fresh, reused, searched, rest, fitted, round, Ending, refused, ended, Run, carry, loop}
 use Rattle.wcs_refine.proofs.Points.{points_within}
 use Rattle.wcs_refine.proofs.Along.{either}
 use Rattle.wcs_refine.proofs.ClipSteps.{clip_fewer}
@@ -56,7 +56,7 @@ module _ (k : Fixed) (spots directions : List Float) (m : ℕ) (room : 2 * withi
       let new = renamed qs (matches_of points k.limit (laid qs) (r ⊗ r)) in
       let few : length new ≤ m =
       omega (arith, few_matches points k.limit (laid qs) (r ⊗ r), points_within spots k.limit, length_renamed qs (matches_of points k.limit (laid qs) (r ⊗ r)), room) in
-      either Small (ltb k.capacity (length (pairs points k.limit (laid qs) (r ⊗ r)))) (refuse 13) (settled p ms c new) tt (settled_small p ms c new h few)
+      either Small (too_many k.matcher k.capacity (length (pairs points k.limit (laid qs) (r ⊗ r)))) (refuse 13) (settled p ms c new) tt (settled_small p ms c new h few)
 
   fresh_small : (p : Pose) (ms : List ℕ) (r : Float) (listed : List ℕ) → length ms ≤ m → Small (fresh k spots directions p ms r listed).next
   unfolding fresh

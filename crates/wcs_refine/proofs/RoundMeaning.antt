@@ -10,10 +10,12 @@ use Rattle.project.specs.Camera.{boresight, camera_rows}
 use Rattle.panel.specs.Points.{points_of}
 use Rattle.fit.specs.declared.Pose.{Pose}
 use Rattle.entry.specs.Fixed.{Fixed}
+use Rattle.entry.specs.declared.Matcher.{Matcher}
+use Rattle.entry.specs.declared.Matcher.TheVariants.{Listing, Scanning}
 use Rattle.query.specs.Query.{Cache, empty, full, query, drifted, Prediction, predictions, pruned}
 use Rattle.wcs_refine.specs.Clip.{clipped}
 use Rattle.wcs_refine.specs.Associate.{laid, renamed}
-use Rattle.wcs_refine.specs.Round.{State, Next, refuse, settled, associated, fresh, reused, searched, rest, fitted, round}
+use Rattle.wcs_refine.specs.Round.{State, Next, refuse, settled, too_many, associated, fresh, reused, searched, rest, fitted, round}
 use Rattle.wcs_refine.specs.Meaning.{fit, measured, spread, radius, listed_by, predicted, frame, found, Searched, RoundMeant}
 use Rattle.wcs_refine.proofs.RoundPlaces.{places}
 
@@ -33,23 +35,30 @@ module _ (k : Fixed) (spots directions : List Float) (s : State) where
 
   -- the association on the predictions of the round, whatever is cached after it
   associated_meant : (c : Cache) → Searched k spots directions s (associated k (points_of spots k.limit) pose kept c px seen)
-  unfolding associated
+  unfolding associated too_many
   associated_meant c = record {
     places = places k spots directions s;
     list = matches_of (points_of spots k.limit) k.limit (laid seen) (px ⊗ px);
     the = matcher_meant (frame k spots directions s);
     cache = c;
-    follows = by (ltb k.capacity (found k spots directions s)) refl;
+    follows = by k.matcher;
   }
     where
       next : Next
       next = settled pose kept c (renamed seen (matches_of (points_of spots k.limit) k.limit (laid seen) (px ⊗ px)))
 
-      by : (b : Bool) → ltb k.capacity (found k spots directions s) ≡ b
-          → ((k.capacity < found k spots directions s) × (cond b (refuse 13) next ≡ refuse 13))
-          ⊎ ((found k spots directions s ≤ k.capacity) × (cond b (refuse 13) next ≡ next))
-      by true e = inl (ltb-true k.capacity (found k spots directions s) e, refl)
-      by false e = inr (ltb-false k.capacity (found k spots directions s) e, refl)
+      Follows : Matcher → Next → Type 0
+      Follows m n =
+          ((m ≡ Listing) × (k.capacity < found k spots directions s) × (n ≡ refuse 13))
+          ⊎ (((m ≡ Scanning) ⊎ (found k spots directions s ≤ k.capacity)) × (n ≡ next))
+
+      listed : (b : Bool) → ltb k.capacity (found k spots directions s) ≡ b → Follows Listing (cond b (refuse 13) next)
+      listed true e = inl (refl, ltb-true k.capacity (found k spots directions s) e, refl)
+      listed false e = inr (inr (ltb-false k.capacity (found k spots directions s) e), refl)
+
+      by : (m : Matcher) → Follows m (cond (too_many m k.capacity (found k spots directions s)) (refuse 13) next)
+      by Listing = listed (ltb k.capacity (found k spots directions s)) refl
+      by Scanning = inr (inl refl, refl)
 
   abbrev axes : List (List Float)
   axes = camera_rows pose.theta pose.ra pose.dec

@@ -91,6 +91,7 @@ module _ (g : Given) (sa sb da db : List Float) (ls : length sa ≡ length sb) (
       mirror = g.mirror;
       radius = g.radius;
       limit = g.limit;
+      matcher = g.matcher;
       count = ld i / 3;
       capacity = (fixed a).capacity;
       cut = g.cut;

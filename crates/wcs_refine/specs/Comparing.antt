@@ -4,12 +4,12 @@ use Rattle.std.specs.Prelude.{◌≡◌, ℕ, ◌+◌, ◌-◌, ◌*◌, ◌<◌
 use Rattle.std.proofs.Math.Seq.{slice}
 use Rattle.rounding.specs.Arith.{◌⊗◌}
 use Rattle.pairs.specs.Pairs.{pairs, spots_within}
-use Rattle.matching.specs.Merge.{not_after}
-use Rattle.matching.specs.Comparisons.{comparisons}
 use Rattle.matching.specs.Greedy.{flat, matches_of}
 use Rattle.pairs.specs.Candidates.{capacity}
+use Rattle.entry.specs.declared.Matcher.{Matcher}
 use Rattle.wcs_refine.specs.Associate.{Link, links, same_matches}
 use Rattle.wcs_refine.specs.Listing.{renamed_by}
+use Rattle.wcs_refine.specs.Round.{too_many, ordering}
 use Rattle.refusal.specs.declared.Refusal.{Refusal}
 use Rattle.refusal.specs.declared.Refusal.TheVariants.{ManyPairs}
 use Rattle.wcs_refine.specs.declared.associating.Tally.{Tally}
@@ -92,20 +92,20 @@ pub record NewAt (n within t : ℕ) (new before after : List ℕ) : Type 0 where
   pub list : slice (8 * n) (8 * n + 2 * t) after ≡ new
 
 -- So many spots were looked at, so many matches are there, in their region, and so many comparisons put their pairs in order.
-pub record Tallied (n q : ℕ) (points : List Float) (limit : ℕ) (r : Float) (floats : List Float) (before after : List ℕ)
+pub record Tallied (matcher : Matcher) (n q : ℕ) (points : List Float) (limit : ℕ) (r : Float) (floats : List Float) (before after : List ℕ)
     (t : Tally) : Type 0 where
   pub within : t.within ≡ spots_within points limit
   pub comparisons : t.comparisons
-      ≡ comparisons not_after (pairs points limit (slice (2 * n) (2 * n + 2 * q) floats) (r ⊗ r))
+      ≡ ordering matcher (pairs points limit (slice (2 * n) (2 * n + 2 * q) floats) (r ⊗ r))
   pub count : t.count ≡ length (matches_of points limit (slice (2 * n) (2 * n + 2 * q) floats) (r ⊗ r))
   pub there : NewAt n t.within t.count
       (renamed_by (slice (3 * n) (3 * n + q) before)
       (flat (matches_of points limit (slice (2 * n) (2 * n + 2 * q) floats) (r ⊗ r)))) before after
 
--- The matches of the spots' points with the q predictions, unless there are more pairs than the candidate lists hold.
-pub record FoundTo (n q : ℕ) (points : List Float) (limit : ℕ) (r : Float) (floats distances : List Float)
+-- The matches of the spots' points with the q predictions, unless the matcher lists more pairs than the candidate lists hold.
+pub record FoundTo (matcher : Matcher) (n q : ℕ) (points : List Float) (limit : ℕ) (r : Float) (floats distances : List Float)
     (indices before after : List ℕ) (f : Result Tally Refusal) : Type 0 where
   pub full : is_err f
-      ≡ nat_lt (capacity distances indices) (length (pairs points limit (slice (2 * n) (2 * n + 2 * q) floats) (r ⊗ r)))
+      ≡ too_many matcher (capacity distances indices) (length (pairs points limit (slice (2 * n) (2 * n + 2 * q) floats) (r ⊗ r)))
   pub refusal : IfErr f (λ e. e ≡ ManyPairs)
-  pub found : IfOk f (Tallied n q points limit r floats before after)
+  pub found : IfOk f (Tallied matcher n q points limit r floats before after)

@@ -12,5 +12,7 @@ pub mod Sighting
 pub mod Stepping
 pub mod Ending
 pub mod Comparing
+pub mod Choosing
+pub mod Choice
 pub mod Meaning
 pub mod Ceiling

@@ -13,6 +13,7 @@ use Rattle.panel.specs.Points.{within_limit, points_of}
 use Rattle.fit.specs.Rows.{rows, view_of}
 use Rattle.residuals.specs.Residual.{residuals}
 use Rattle.entry.specs.Fixed.{Fixed}
+use Rattle.entry.specs.declared.Matcher.TheVariants.{Listing, Scanning}
 use Rattle.passes.specs.Fit.{Passes, fit_passes}
 use Rattle.query.specs.Query.{Cache, empty, full, query, drifted, Prediction, predictions}
 use Rattle.wcs_refine.specs.Clip.{statistics, clipped}
@@ -63,19 +64,19 @@ module _ (k : Fixed) (spots directions : List Float) (s : State) where
         let q = slice_index_or predicted j past in
         (point_at frame.predicted j ≡ point q.x q.y) × (direction_of predicted j ≡ q.direction)
 
-  -- How many pairs lie within the radius, which refusal 13 goes by.
+  -- How many pairs lie within the radius, which the listed matcher's refusal 13 goes by.
   abbrev pub found : ℕ
   found = length (pairs frame.points frame.limit frame.predicted frame.radius_sq)
 
-  -- The matches of the round are the one list. The round is refused with 13, or goes on by that list alone, each prediction named by its direction, and with
-  -- some query cached for the next.
+  -- The matches of the round are the one list, with either matcher. The round is refused with 13, which the listed one alone gives, or goes on by that list
+  -- alone, each prediction named by its direction, and with some query cached for the next.
   pub record Searched (next : Next) : Type 0 where
     pub places : Places
     pub list : List Match
     pub the : TheMatches frame list
     pub cache : Cache
-    pub follows : ((k.capacity < found) × (next ≡ refuse 13))
-        ⊎ ((found ≤ k.capacity)
+    pub follows : ((k.matcher ≡ Listing) × (k.capacity < found) × (next ≡ refuse 13))
+        ⊎ (((k.matcher ≡ Scanning) ⊎ (found ≤ k.capacity))
         × (next ≡ settled fit.pose (clipped measured spread s.matches) cache (renamed predicted list)))
 
 -- 02, CR 9: "Prove of the matcher's list in each round .. save where 13 is given"; nor is there a list where a pass met 12. So goes every round, from any

@@ -5,6 +5,7 @@ use Rattle.fit.specs.declared.Pose.{Pose}
 use Rattle.refusal.specs.Number.{number_of}
 use Rattle.refusal.specs.declared.Refusal.{Refusal}
 use Rattle.entry.specs.Arguments.{Call, Lent}
+use Rattle.entry.specs.declared.Matcher.{Matcher}
 use Rattle.wcs_refine.specs.Closing.{Report}
 use Rattle.wcs_refine.specs.Call.{Answer, no, ok, Outcome, outcome}
 use Rattle.wcs_refine.specs.declared.WcsRefineResult.{WcsRefineResult}
@@ -104,8 +105,8 @@ lists numbers floats distances indices result = record {
 }
 
 abbrev pub called :
-    List Float → List ℕ → List Float → List (List Float) → Float → Bool → Float → Float → ℕ → ℕ → Lent → Call
-called spots matches directions rotation scale mirror radius cut limit rounds lent = record {
+    List Float → List ℕ → List Float → List (List Float) → Float → Bool → Float → Float → ℕ → ℕ → Matcher → Lent → Call
+called spots matches directions rotation scale mirror radius cut limit rounds matcher lent = record {
   spots = spots;
   directions = directions;
   given = record {
@@ -117,6 +118,7 @@ called spots matches directions rotation scale mirror radius cut limit rounds le
     cut = cut;
     limit = limit;
     rounds = rounds;
+    matcher = matcher;
     lent = lent;
   };
 }

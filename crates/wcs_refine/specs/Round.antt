@@ -1,7 +1,7 @@
 -- One round of `wcs_refine`'s outer loop, on any state, and the loop. Definitions only. Assumes nothing.
 use Rattle.std.specs.Prelude.{ℕ, zero, suc, ◌+◌, ◌/◌, max, Bool, true, false, cond, not, ◌&&◌, List, [], ◌∷◌, ◌++◌, length, nat_le, nat_lt, Float}
 use Rattle.rounding.specs.Arith.{◌⊗◌}
-use Rattle.pairs.specs.Pairs.{pairs}
+use Rattle.pairs.specs.Pairs.{Pair, pairs}
 use Rattle.matching.specs.Merge.{not_after}
 use Rattle.matching.specs.Comparisons.{comparisons}
 use Rattle.matching.specs.Greedy.{matches_of}
@@ -11,6 +11,8 @@ use Rattle.fit.specs.Rows.{Row, rows, view_of}
 use Rattle.residuals.specs.Residual.{residuals}
 use Rattle.fit.specs.declared.Pose.{Pose}
 use Rattle.entry.specs.Fixed.{Fixed}
+use Rattle.entry.specs.declared.Matcher.{Matcher}
+use Rattle.entry.specs.declared.Matcher.TheVariants.{Listing, Scanning}
 use Rattle.passes.specs.Fit.{Passes, fit_passes}
 use Rattle.wcs_refine.specs.Clip.{statistics, clipped}
 use Rattle.query.specs.Query.{Cache, empty, full, query, drifted, Prediction, predictions, pruned}
@@ -51,19 +53,31 @@ settled p ms c new =
     (go (record { pose = p; matches = new; cache = c }))
     (done (record { pose = p; matches = ms; cache = c }))
 
--- `greedy_unique_matches` on the spots' points, with refusal 13: "A round finds more in-radius pairs than the candidate list holds".
+-- Refusal 13: "A round finds more in-radius pairs than the candidate list holds", of so many places and so many pairs. 02, CR 7, of the matcher that
+-- scans: "it never gives refusal 13".
+unfoldable pub too_many : Matcher → ℕ → ℕ → Bool
+too_many Listing capacity found = nat_lt capacity found
+too_many Scanning capacity found = false
+
+-- `greedy_unique_matches` on the spots' points, with refusal 13. Either matcher "gives the same matches in the same sequence".
 unfoldable pub associated : Fixed → List Float → Pose → List ℕ → Cache → Float → List Prediction → Next
-unfolding settled renamed laid pairs matches_of
+unfolding settled renamed laid pairs matches_of too_many
 associated k points p ms c r qs =
-    cond (nat_lt k.capacity (length (pairs points k.limit (laid qs) (r ⊗ r)))) (refuse 13)
+    cond (too_many k.matcher k.capacity (length (pairs points k.limit (laid qs) (r ⊗ r)))) (refuse 13)
     (settled p ms c (renamed qs (matches_of points k.limit (laid qs) (r ⊗ r))))
 
--- 02, CR 14: "The matcher's ordering of pairs shall count its comparisons". A round that is refused with 13 orders none.
+-- 02, CR 14: "The matcher's ordering of pairs shall count its comparisons"; "The matcher of CR 7 reports 0."
+unfoldable pub ordering : Matcher → List Pair → ℕ
+unfolding comparisons not_after
+ordering Listing ps = comparisons not_after ps
+ordering Scanning ps = 0
+
+-- The comparisons of a round. One that is refused with 13 orders none.
 unfoldable pub compared : Fixed → List Float → Float → List Prediction → ℕ
-unfolding laid pairs comparisons not_after
+unfolding laid pairs ordering too_many
 compared k points r qs =
-    cond (nat_lt k.capacity (length (pairs points k.limit (laid qs) (r ⊗ r)))) 0
-    (comparisons not_after (pairs points k.limit (laid qs) (r ⊗ r)))
+    cond (too_many k.matcher k.capacity (length (pairs points k.limit (laid qs) (r ⊗ r)))) 0
+    (ordering k.matcher (pairs points k.limit (laid qs) (r ⊗ r)))
 
 -- Phase D after the fresh query `listed`: it is counted, and what lies beyond keep_r is not cached.
 unfoldable pub fresh : Fixed → List Float → List Float → Pose → List ℕ → Float → List ℕ → Found

@@ -5,10 +5,10 @@ ghost use Rattle.panel.specs.Points.{points_of};
 ghost use Rattle.wcs_refine.specs.Keeping.{state_of, Same, PointsAt, points_at, AssociatedTo};
 ghost use Rattle.wcs_refine.specs.Comparing.{FoundTo};
 
+use crate::choosing::matched;
 use crate::comparing::{Table, same_matches};
 use crate::rename::renamed_into;
 use crate::working::Working;
-use matching::greedy_unique_matches_by_strips;
 use panel::{SPOT_NUMBERS, lay_points};
 use refusal::Refusal;
 
@@ -31,11 +31,11 @@ pub(crate) struct Tally {
 }
 
 // The matcher works in regions 4 to 7, which are as long as strips, marks and matches can need; its matches go from there to region 8 by their directions.
-// The points of so many spots stand in regions 4 and 5 of the floats. It fails where there are more pairs than the candidate lists hold.
+// The points of so many spots stand in regions 4 and 5 of the floats. It fails where the matcher lists more pairs than the candidate lists hold.
 fn find(w: &mut Working<'_>, spots: usize, r: f64, q: usize) -> Result<Tally, Refusal>
     requires { spots + q ≤ w.old.course.room }
     ensures { Same w.old w.new × (w.new.held ≡ w.old.held)
-        × FoundTo w.old.course.room q (points_at w.old.course.room spots w.old.floats.now) w.old.course.k.limit r
+        × FoundTo w.old.course.k.matcher w.old.course.room q (points_at w.old.course.room spots w.old.floats.now) w.old.course.k.limit r
         w.old.floats.now w.old.distances.now w.old.indices.now w.old.numbers.now w.new.numbers.now result }
 {
     let course = w.course;
@@ -49,7 +49,8 @@ fn find(w: &mut Working<'_>, spots: usize, r: f64, q: usize) -> Result<Tally, Re
     let within = spots.min(course.k.limit);
     // They are only read, but parts to read of a lent list cannot be lent beside the others.
     let floats = &mut *w.floats;
-    let m = greedy_unique_matches_by_strips(
+    let m = matched(
+        course.k.matcher,
         &floats[at..past],
         course.k.limit,
         &floats[from..end],

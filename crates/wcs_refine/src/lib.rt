@@ -8,7 +8,7 @@ ghost use Rattle.wcs_refine.specs.Ending.{answer_of, Answered};
 ghost use Rattle.wcs_refine.specs.Returned.{lists, called, Answers};
 
 use course::Course;
-use entry::{clear_all, refusal_of, settings_of};
+use entry::{Matcher, clear_all, refusal_of, settings_of};
 use fit::Pose;
 use panel::SPOT_NUMBERS;
 use refusal::Refusal;
@@ -22,7 +22,8 @@ mod reporting; // reporting.rt: the numbers that an accepted call reports
 mod course; // course.rt: what a run reads and never changes
 mod working; // working.rt: what a run works on
 mod looking; // looking.rt: the cone query, unless the cached one serves, and the predictions
-mod associating; // associating.rt: the matcher on the predictions
+mod choosing; // choosing.rt: the matcher that was chosen
+mod associating; // associating.rt: that matcher on the predictions
 mod comparing; // comparing.rt: whether new matches are the present ones
 mod searching; // searching.rt: a round's search
 mod rounds; // rounds.rt: one round, and the loop
@@ -60,8 +61,9 @@ fn refined(
 
 // Refines the pose of a rotation from spots (flat, x, y and weight), directions (flat, three components) and starting matches (flat, spot then
 // direction). A spot pulls on the pose by its weight; it is matched, clipped and measured without it. A direction whose denominator is at most `cut`
-// is dropped, everywhere in the run. `numbers` and `floats` are working lists, `distances` and `indices` room for candidate pairs; the matches go to
-// `result_list`.
+// is dropped, everywhere in the run. `matcher` is which of the two matchers the rounds use: the same matches come of either, but the scanning one lists no
+// candidate pairs, so that it needs no room for them and is never refused for want of it. `numbers` and `floats` are working lists, `distances` and
+// `indices` room for candidate pairs, which may be empty for the scanning matcher; the matches go to `result_list`.
 // Stays (form of 01): the lists and numbers of a call come flat, each by itself.
 #[tactic(auto, unfolding(entry::specs::Check::refusal, entry::specs::Fixed::fixed, crate::specs::Call::start, entry::specs::Fixed::start_pose))]
 pub fn wcs_refine(
@@ -75,6 +77,7 @@ pub fn wcs_refine(
     cut: f64,
     limit: usize,
     rounds: usize,
+    matcher: Matcher,
     numbers: &mut [usize],
     floats: &mut [f64],
     distances: &mut [f64],
@@ -83,7 +86,7 @@ pub fn wcs_refine(
 ) -> Result<WcsRefineResult, Refusal>
     ensures { Answers
         (called spots.now matches.now directions.now rotation scale mirror radius
-        cut limit rounds
+        cut limit rounds matcher
         (lists numbers.old floats.old distances.old indices.old
         result_list.old))
         result
@@ -113,6 +116,7 @@ pub fn wcs_refine(
         radius,
         cut,
         limit,
+        matcher,
         distances.len(),
         indices.len(),
     );

@@ -157,7 +157,7 @@ fn lent(o: &Options) -> Lent {
     let Some(pairs) = o.pairs else { return PROGRAM };
     let all = usize::MAX;
     let (distances, indices) = (2 * pairs, 4 * pairs);
-    Lent { wholes: all, floats: all, result: all, distances, indices, cells: None }
+    Lent { wholes: all, floats: all, result: all, distances, indices, scanning: false, cells: None }
 }
 
 fn compare(o: &Options, cases: &[Case], differences: &mut Differences) {

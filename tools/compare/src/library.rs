@@ -12,7 +12,22 @@ use reference::answer::bits;
 use reference::call::{self, Answer, Lent};
 use reference::record::{read_any, Exposure, SPOT_NUMBERS};
 
-const USAGE: &str = "library [--count N] [--kind NAME] [--full N] [--seed N] [--time] [--growth]";
+const USAGE: &str = "library [--count N] [--kind NAME] [--full N] [--seed N] [--scanning | --listing] [--time] [--growth] [--scan-times]";
+
+/// Sets the choice of the matcher, and what candidate lists it is lent, apart from the other numbers of the same seed.
+const CHOICES: u64 = 0x5CA1_1157;
+
+/// The choice of a call, unless it is settled for all: one in three scans. Half of these are lent candidate lists without a place.
+fn chosen(r: &mut Rng, l: &mut Lists, scanning: Option<bool>) {
+    l.scanning = r.once_in(3);
+    if let Some(settled) = scanning {
+        l.scanning = settled;
+    }
+    if l.scanning && r.once_in(2) {
+        l.distances.clear();
+        l.indices.clear();
+    }
+}
 
 /// Lists filled with what must not matter, of lengths that vary about the needed ones.
 fn lent(r: &mut Rng, e: &Exposure, pairs: usize) -> Lists {
@@ -39,6 +54,7 @@ fn lent(r: &mut Rng, e: &Exposure, pairs: usize) -> Lists {
         indices: whole(indices),
         result: whole(result),
         counts: whole(5),
+        scanning: false,
     }
 }
 
@@ -132,13 +148,14 @@ fn due(e: &Exposure, l: &Lists) -> Result<Answer, u8> {
         result: l.result.len(),
         distances: l.distances.len(),
         indices: l.indices.len(),
+        scanning: l.scanning,
         cells: None,
     };
     call::refine(e, &lent, false)
 }
 
-/// Calls of seeded records: of all kinds, or of one.
-fn compare(seed: u64, count: u64, kind: Option<&str>, pairs: usize) {
+/// Calls of seeded records: of all kinds, or of one; of either matcher, or of one.
+fn compare(seed: u64, count: u64, kind: Option<&str>, pairs: usize, scanning: Option<bool>) {
     let (mut calls, mut different, mut item) = (0, 0, 0);
     let mut answers: BTreeMap<String, u64> = BTreeMap::new();
     while calls < count {
@@ -148,13 +165,15 @@ fn compare(seed: u64, count: u64, kind: Option<&str>, pairs: usize) {
         calls += 1;
         let mut r = Rng::new(seed ^ 0x5EED, item);
         spoil(&mut r, &mut e);
-        let was = lent(&mut r, &e, pairs);
+        let mut was = lent(&mut r, &e, pairs);
+        chosen(&mut Rng::new(seed ^ CHOICES, item), &mut was, scanning);
         let mut now = was.clone();
         let said = refine(&e, &mut now);
         let due = due(&e, &was);
+        let matcher = if was.scanning { "scanning" } else { "listing" };
         let key = match &due {
-            Ok(a) => format!("accepted, {} rounds, {} queries", a.counts[0].min(3), a.counts[2].min(3)),
-            Err(n) => format!("refused {n:2}"),
+            Ok(a) => format!("{matcher}: accepted, {} rounds, {} queries", a.counts[0].min(3), a.counts[2].min(3)),
+            Err(n) => format!("{matcher}: refused {n:2}"),
         };
         *answers.entry(key).or_default() += 1;
         due.iter().flat_map(ordering::told).for_each(|name| *answers.entry(name.into()).or_default() += 1);
@@ -174,7 +193,7 @@ fn compare(seed: u64, count: u64, kind: Option<&str>, pairs: usize) {
 
 fn main() {
     let (mut seed, mut count, mut full) = (1, 0, 0);
-    let (mut timed, mut growth, mut kind) = (false, false, None);
+    let (mut timed, mut growth, mut scans, mut kind, mut scanning) = (false, false, false, None, None);
     let mut words = std::env::args().skip(1);
     while let Some(word) = words.next() {
         let mut value = || words.next().expect(USAGE);
@@ -182,6 +201,9 @@ fn main() {
         match word.as_str() {
             "--time" => timed = true,
             "--growth" => growth = true,
+            "--scan-times" => scans = true,
+            "--scanning" => scanning = Some(true),
+            "--listing" => scanning = Some(false),
             "--kind" => kind = Some(value()),
             "--seed" => seed = number(value()),
             "--count" => count = number(value()),
@@ -190,15 +212,19 @@ fn main() {
         }
     }
     if count > 0 {
-        compare(seed, count, kind.as_deref(), 2048);
+        compare(seed, count, kind.as_deref(), 2048, scanning);
     }
     if full > 0 {
-        compare(seed, full, Some("full-size"), 1 << 20);
+        // At full size a scan takes too long.
+        compare(seed, full, Some("full-size"), 1 << 20, Some(false));
     }
     if timed {
         timing::sizes();
     }
     if growth {
         timing::growth();
+    }
+    if scans {
+        timing::scanning();
     }
 }

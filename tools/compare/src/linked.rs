@@ -19,6 +19,7 @@ extern "C" {
         cut: f64,
         limit: usize,
         rounds: usize,
+        scanning: bool,
         numbers: *mut usize,
         numbers_len: usize,
         floats: *mut f64,
@@ -36,7 +37,7 @@ extern "C" {
     ) -> usize;
 }
 
-/// The lists that a call may write.
+/// The lists that a call may write, and its choice of the matcher.
 #[derive(Clone)]
 pub struct Lists {
     pub numbers: Vec<usize>,
@@ -45,6 +46,8 @@ pub struct Lists {
     pub indices: Vec<usize>,
     pub result: Vec<usize>,
     pub counts: Vec<usize>,
+    /// Whether the call chooses the matcher that lists no pairs.
+    pub scanning: bool,
 }
 
 /// Refusal and the eighteen values.
@@ -73,6 +76,7 @@ pub fn refine(e: &Exposure, l: &mut Lists) -> Said {
             e.cut,
             e.limit,
             e.rounds as usize,
+            l.scanning,
             l.numbers.as_mut_ptr(),
             l.numbers.len(),
             l.floats.as_mut_ptr(),

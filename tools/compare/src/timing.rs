@@ -30,10 +30,11 @@ fn time(bytes: &[u8], pairs: usize, runs: usize) -> Option<Timed> {
         indices: vec![0; 4 * pairs],
         result: vec![0; 8192],
         counts: vec![0; 5],
+        scanning: false,
     };
-    let lent = Lent { wholes: n, floats: n, result: 8192, distances: 2 * pairs, indices: 4 * pairs, cells: None };
+    let lent = Lent { wholes: n, floats: n, result: 8192, distances: 2 * pairs, indices: 4 * pairs, scanning: false, cells: None };
     let a = call::refine(&e, &lent, false).ok()?;
-    let lent = uncounted::call::Lent { wholes: n, floats: n, result: 8192, distances: 2 * pairs, indices: 4 * pairs, cells: None };
+    let lent = uncounted::call::Lent { wholes: n, floats: n, result: 8192, distances: 2 * pairs, indices: 4 * pairs, scanning: false, cells: None };
     let prepared = uncounted::call::Prepared::new(&plain, &lent);
     let mut t = Timed { matches: a.result.matches.len(), counts: a.counts, here: f64::INFINITY, rust: f64::INFINITY };
     for _ in 0..runs {
@@ -158,4 +159,45 @@ pub fn growth() {
             println!("{spots},{directions},{},{:.1},{:.1}", t.counts[0], t.here * 1e6, t.rust * 1e6);
         }
     }
+}
+
+/// One round with either matcher, all directions in one field: as spots usually lie, and with a radius that puts many pairs within it.
+pub fn scanning() {
+    println!("spots,directions,radius,matches,listing,scanning,rust");
+    for (spots, directions) in [(16, 64), (32, 128), (64, 256), (128, 512), (256, 1024), (512, 2048), (1024, 4096)] {
+        for radius in [6.0, 60.0] {
+            let pairs = (3 * spots / 4).min(3 * directions / 4);
+            let mut r = Rng::new(80, 0);
+            let mut p = plan(&mut r, [pairs, spots - pairs, directions - pairs, 0], 1);
+            p.radius = radius;
+            let bytes = weighed(p.take(&mut r));
+            let runs = 3 + (40_000_000 / (spots * spots * directions)).min(2000);
+            let room = 2048 + spots * directions / 32;
+            let Some(t) = time(&bytes, room, runs) else { continue };
+            let scan = scanned(&bytes, runs);
+            println!("{spots},{directions},{radius},{},{:.1},{:.1},{:.1}", t.matches, t.here * 1e6, scan * 1e6, t.rust * 1e6);
+        }
+    }
+}
+
+/// The least time in seconds of the same call with the matcher that scans, without a place for candidates.
+fn scanned(bytes: &[u8], runs: usize) -> f64 {
+    let e = read_any(bytes).expect("a record");
+    let n = 16 * (e.spots.len() / SPOT_NUMBERS + e.matches.len() / 2 + e.directions.len() / 3);
+    let mut l = Lists {
+        numbers: vec![0; n],
+        floats: vec![0.0; n],
+        distances: Vec::new(),
+        indices: Vec::new(),
+        result: vec![0; 8192],
+        counts: vec![0; 5],
+        scanning: true,
+    };
+    let mut least = f64::INFINITY;
+    for _ in 0..runs {
+        let start = Instant::now();
+        assert_eq!(black_box(refine(&e, &mut l)).refusal, 0);
+        least = least.min(start.elapsed().as_secs_f64());
+    }
+    least
 }

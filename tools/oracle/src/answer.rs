@@ -16,6 +16,7 @@ pub const PROGRAM: Lent = Lent {
     result: 2 * SPOTS,
     distances: 4_096,
     indices: 8_192,
+    scanning: false,
     cells: None,
 };
 

@@ -32,8 +32,8 @@ const GREATEST_COMPONENT: f32 = 2.0;
 /// Working places for each spot, match and direction.
 const PLACES: usize = 16;
 
-/// Lengths of the lists lent for work and for the result, and how directions
-/// are queried.
+/// Lengths of the lists lent for work and for the result, which matcher is
+/// chosen, and how directions are queried.
 #[derive(Clone, Copy, Debug)]
 pub struct Lent {
     pub wholes: usize,
@@ -41,14 +41,21 @@ pub struct Lent {
     pub result: usize,
     pub distances: usize,
     pub indices: usize,
+    /// The matcher of request 7 of document 02, which lists no pairs: the
+    /// reference's own with room for every pair, and no comparisons.
+    pub scanning: bool,
     /// The resolution of the reference's own cells, instead of the scan.
     pub cells: Option<u32>,
 }
 
 impl Lent {
-    /// The pairs that the candidate lists hold.
+    /// The pairs that the matcher may find.
     pub fn pairs(&self) -> usize {
-        (self.distances / 2).min(self.indices / 4)
+        if self.scanning {
+            usize::MAX
+        } else {
+            (self.distances / 2).min(self.indices / 4)
+        }
     }
 }
 
@@ -224,5 +231,9 @@ fn star_at(d: &[f32; 3]) -> Star {
 /// One refinement call.
 pub fn refine(e: &Exposure, lent: &Lent, traced: bool) -> Result<Answer, u8> {
     check(e, lent)?;
-    Prepared::new(e, lent).run(traced)
+    let mut answer = Prepared::new(e, lent).run(traced)?;
+    if lent.scanning {
+        answer.compared.clear();
+    }
+    Ok(answer)
 }

@@ -47,6 +47,7 @@ const ANY: Lent = Lent {
     result: usize::MAX,
     distances: usize::MAX,
     indices: usize::MAX,
+    scanning: false,
     cells: None,
 };
 

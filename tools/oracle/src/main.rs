@@ -28,6 +28,7 @@ oracle full [many] [..]    the call at its full limits, records of any length:
     --cut-spots N --cut-matches N --cut-directions N
                                         places left off the end of a flat list
     --comparisons yes                   a line more, the comparisons
+    --scanning yes                      the matcher without candidate lists
     --cells NSIDE                       the reference's own cells, not the scan
 oracle eval                single functions, by bits
 oracle cells [..]          directions that the reference's cells lose
@@ -81,6 +82,7 @@ impl Full {
             result: all,
             distances: 2 * pairs,
             indices: 4 * pairs,
+            scanning: false,
             cells: None,
         };
         let (mut less, mut comparisons) = ([0; 3], false);
@@ -88,6 +90,10 @@ impl Full {
             let [name, value] = option else { usage() };
             if *name == "--comparisons" {
                 comparisons = *value == "yes";
+                continue;
+            }
+            if *name == "--scanning" {
+                lent.scanning = *value == "yes";
                 continue;
             }
             let value: usize = value.parse().unwrap_or_else(|_| usage());

@@ -18,7 +18,7 @@ pub returns-in_err-refusal_of : goal.returns-in_err-refusal_of
 unfolding refusal
 returns-in_err-refusal_of c =
     let a = c.args in
-    let q = called a.spots.now a.matches.now a.directions.now a.rotation a.scale a.mirror a.radius a.cut a.limit a.rounds (lists a.numbers.now a.floats.now a.distances.now a.indices.now a.result_list.now) in
+    let q = called a.spots.now a.matches.now a.directions.now a.rotation a.scale a.mirror a.radius a.cut a.limit a.rounds a.matcher (lists a.numbers.now a.floats.now a.distances.now a.indices.now a.result_list.now) in
     let is : number_of c.in_err-refusal_of.field-0.0 ≡ refusal q = c.in_err-refusal_of.ensures in
     check_returns q (number_of c.in_err-refusal_of.field-0.0) is (has_number _) _ (handed_on _ _ c.from_residual.ensures.1)
 
@@ -26,14 +26,14 @@ pub begin-held-requires : goal.begin-held-requires
 unfolding refusal
 begin-held-requires c =
     let a = c.args in
-    let q = called a.spots.now a.matches.now a.directions.now a.rotation a.scale a.mirror a.radius a.cut a.limit a.rounds (lists a.numbers.now a.floats.now a.distances.now a.indices.now a.result_list.now) in
+    let q = called a.spots.now a.matches.now a.directions.now a.rotation a.scale a.mirror a.radius a.cut a.limit a.rounds a.matcher (lists a.numbers.now a.floats.now a.distances.now a.indices.now a.result_list.now) in
     begin_fits q (sym c.in_ok-refusal_of.ensures)
 
 pub new-w-requires : goal.new-w-requires
 unfolding refusal fixed
 new-w-requires c =
     let a = c.args in
-    let q = called a.spots.now a.matches.now a.directions.now a.rotation a.scale a.mirror a.radius a.cut a.limit a.rounds (lists a.numbers.now a.floats.now a.distances.now a.indices.now a.result_list.now) in
+    let q = called a.spots.now a.matches.now a.directions.now a.rotation a.scale a.mirror a.radius a.cut a.limit a.rounds a.matcher (lists a.numbers.now a.floats.now a.distances.now a.indices.now a.result_list.now) in
     let lawful : refusal q ≡ 0 = sym c.in_ok-refusal_of.ensures in
     let k = c.settings_of-k.result in
     let same : fixed_of k ≡ fixed q = c.settings_of-k.ensures in
@@ -44,7 +44,7 @@ pub refined-r-requires : goal.refined-r-requires
 unfolding refusal fixed
 refined-r-requires c =
     let a = c.args in
-    let q = called a.spots.now a.matches.now a.directions.now a.rotation a.scale a.mirror a.radius a.cut a.limit a.rounds (lists a.numbers.now a.floats.now a.distances.now a.indices.now a.result_list.now) in
+    let q = called a.spots.now a.matches.now a.directions.now a.rotation a.scale a.mirror a.radius a.cut a.limit a.rounds a.matcher (lists a.numbers.now a.floats.now a.distances.now a.indices.now a.result_list.now) in
     let lawful : refusal q ≡ 0 = sym c.in_ok-refusal_of.ensures in
     let k = c.settings_of-k.result in
     let same : fixed_of k ≡ fixed q = c.settings_of-k.ensures in
@@ -55,7 +55,7 @@ pub returns : goal.returns
 unfolding refusal fixed start start_pose
 returns c =
     let a = c.args in
-    let q = called a.spots.now a.matches.now a.directions.now a.rotation a.scale a.mirror a.radius a.cut a.limit a.rounds (lists a.numbers.now a.floats.now a.distances.now a.indices.now a.result_list.now) in
+    let q = called a.spots.now a.matches.now a.directions.now a.rotation a.scale a.mirror a.radius a.cut a.limit a.rounds a.matcher (lists a.numbers.now a.floats.now a.distances.now a.indices.now a.result_list.now) in
     let lawful : refusal q ≡ 0 = sym c.in_ok-refusal_of.ensures in
     let k = c.settings_of-k.result in
     let same : fixed_of k ≡ fixed q = c.settings_of-k.ensures in

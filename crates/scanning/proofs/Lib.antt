@@ -1,0 +1,10 @@
+pub mod Closest
+pub mod Turns
+pub mod Agreeing
+pub mod Marking
+pub mod Joining
+pub mod Looking
+pub mod Sifting
+pub mod Counting
+pub mod Holding
+pub mod Whole

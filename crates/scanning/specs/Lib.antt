@@ -1,0 +1,3 @@
+pub mod Scanning
+pub mod Agreeing
+pub mod Seeking
