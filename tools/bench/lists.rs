@@ -199,7 +199,11 @@ fn main() {
     medians(&mut random);
     scans(&mut random);
     matcher(&mut random, 64, 256, 500.0, 20.0, 2000);
+    matcher(&mut random, 64, 256, 500.0, 50.0, 2000);
     matcher(&mut random, 64, 256, 500.0, 200.0, 2000);
+    matcher(&mut random, 128, 512, 500.0, 20.0, 200);
+    matcher(&mut random, 128, 512, 500.0, 200.0, 200);
     matcher(&mut random, 256, 1024, 500.0, 20.0, 200);
+    matcher(&mut random, 256, 1024, 500.0, 200.0, 20);
     matcher(&mut random, 4096, 8192, 2000.0, 10.0, 20);
 }
