@@ -73,7 +73,7 @@ extern "C" {
  *    room for 2,048 pairs, as the program refine has          b 11    at most         22,528 comparisons in a round
  *    room for 65,536 pairs                                    b 16    at most      1,048,576
  *    room for 268,435,456 pairs, as many as there can be      b 28    at most  7,516,192,768
- * The figure is 0 where the call is refused, where no round ran and where no pair was found.
+ * The figure is 0 where the call is refused, where no round ran, where no pair was found, and by scanning.
  *
  * The matchers give the same matches in the same sequence, and so the same answer but for the comparisons, of which scanning reports 0. The listing
  * one writes down every pair within the radius, so that it needs room for them and is refused with 13 where it has too little; it is the quick
