@@ -99,7 +99,7 @@ pub record Instance (m : Matcher) : Type 0 where
   pub only_unseen : OnlyUnseen (before m) (after m)
   -- What demand 3 then says of these calls.
   pub same : outcome (before m) ≡ outcome (after m)
-  -- The outcome itself, computed: accepted (after m) one round, no fit pass and one query, with the start pose and no match.
+  -- The outcome itself, computed: accepted after one round, no fit pass and one query, with the start pose and no match.
   pub computed : outcome (before m) ≡ expected
 
 spot_apart : (m : Matcher) → SpotUnchanged (before m) (after m) 1 → ⊥

@@ -65,7 +65,7 @@ pub(crate) fn candidates(rt: &HostRuntime) {
     left_zero(rt);
 }
 
-// Both matchers with room for all four pairs: how many comparisons each reports, and whether they answer alike in the rest.
+// Both matchers with room for all four pairs: how many comparisons each reports, and whether their other counts and their poses are alike.
 fn agreeing(rt: &HostRuntime) {
     let listing = four_pairs(8, 16, Matcher::Listing).made();
     let scanning = four_pairs(8, 16, Matcher::Scanning).made();
@@ -79,7 +79,7 @@ fn agreeing(rt: &HostRuntime) {
         })
     };
     let _ = println!(rt;
-        "  the rest is {}",
+        "  the other counts and the pose are {}",
         if same_bits(uncounted(listing), uncounted(scanning)) {
             "alike"
         } else {

@@ -17,7 +17,8 @@ RoundCeiling = (k : Fixed) (spots directions : List Float) (s : State) (b : ℕ)
     LeastPower (found k spots directions s) b →
     (round k spots directions s).found.comparisons ≤ found k spots directions s * b
 
--- A call: a round that finds more pairs than the candidate lists hold is refused, so n is at most their capacity, whatever the exposure shows.
+-- A call: where pairs are listed, a round that finds more of them than the candidate lists hold is refused, so n is at most their capacity, whatever the
+-- exposure shows; where none are listed, none are compared.
 abbrev pub CallCeiling : Type 0
 CallCeiling = (c : Call) (r : Result WcsRefineResult Refusal) (l : Lent) (b : ℕ) → Answers c r l →
     LeastPower (capacity c.given.lent.distances c.given.lent.indices) b →
