@@ -69,7 +69,7 @@ extern "C" {
  * are merged by comparing the first pair left of each, by distance, then spot, then prediction, and taking the one that goes before, until one run is
  * used up. Each such comparison counts 1; what is left of the other run counts nothing, nor does a run without neighbour. A round of n pairs takes at
  * most n x b comparisons, b being the least whole number with 2^b at least n, and n is at most the number of pairs that the candidate lists hold,
- * since a round with more is refused with 13. So the room that is lent is a ceiling for every exposure:
+ * since by listing a round with more is refused with 13. So the room that is lent is a ceiling for every exposure:
  *    room for 2,048 pairs, as the program refine has          b 11    at most         22,528 comparisons in a round
  *    room for 65,536 pairs                                    b 16    at most      1,048,576
  *    room for 268,435,456 pairs, as many as there can be      b 28    at most  7,516,192,768
@@ -80,11 +80,11 @@ extern "C" {
  * one. The scanning one is for panels without that memory: it goes over the spots and the predictions (the directions that a round predicts on the
  * panel) again for each match, so that a round takes at most
  *    (matches + 1) x free spots x free predictions
- * distances, of about 4 nanoseconds each on a 2.5 GHz server processor, the bookkeeping included. A spot or prediction is free until it is matched,
- * or has nothing free within the radius any more. There, with 64 spots and 256 predictions, a round's matching took 0.08 ms with 17 matches, 0.6 ms
- * with 51, and 1.9 ms where every spot had some thirty predictions in reach and all were matched; in that last case 16 ms with 128 and 512, and
- * 150 ms with 256 and 1,024. At the full limits it could be 10^12 distances. Choose it up to 128 spots and 512 directions, and not from 256 and
- * 1,024 on: lend the listing one its room then. Either way distances and indices, where they are lent, are zero afterwards.
+ * distances, of 3 to 5 nanoseconds each on a 2.5 GHz server processor, the bookkeeping included. A spot or prediction is free until it is matched,
+ * or has nothing free within the radius any more. On that processor, with 64 spots and 256 predictions, a round's matching took 0.07 ms with 17
+ * matches, 0.6 ms with 51, and 1.9 ms where every spot had some thirty predictions in reach and all were matched; in that last case 16 ms with 128
+ * and 512, and 150 ms with 256 and 1,024. At the full limits it could be 5 x 10^11 distances, more than half an hour. Choose it up to 128 spots and
+ * 512 directions, and not beyond: lend the listing one its room there. Either way distances and indices, where they are lent, are zero afterwards.
  *
  * Refused with 5 to 11, 14 or 17, numbers, floats, distances, indices and result are as they came. Refused with 12 or 13, result is as it came and
  * the other four are zero from first place to last. Accepted, result starts with the matches and is unchanged after them, and the other four are
