@@ -39,7 +39,7 @@ pub record Scan : Type 0 where
   pub work : List ℕ
 
 -- The matcher whole, with its list lent: "It gives the same matches in the same sequence as the listed matcher", which stand after the marks; these
--- are left zero. "It .. needs only the marks of what is used", and the places of the matches; a list that is too short is answered first, and nothing
+-- are left zero. It "needs only the marks of what is used", and the places of the matches; a list that is too short is answered first, and nothing
 -- is written. It never gives 13.
 unfoldable pub greedy_by_scanning : List Float → ℕ → List Float → Float → List ℕ → Scan
 unfolding matches_of flat
