@@ -146,7 +146,7 @@ pub fn greedy_unique_matches_by_strips(
     let mut c = Candidates::new(distances, indices);
     match pairs::collect_by_strips(s, &mut c, work) {
         Some(()) => {
-            pairs::put_by_spot(&mut c, n.spots, work);
+            c.put_by_spot(n.spots, work);
             settle(n, Half::Second, &mut c, &mut work[room..])
         }
         None => too_many(&mut c),

@@ -24,7 +24,7 @@ settle-requires c =
     let fits : 2 * np + needed a.points.now a.max_points a.predicted.now ≤ length a.work.now =
     rw (← spots, ← s.2, ← c.of-n.ensures.1, ← c.places.ensures) c.if-work-room.false in
     let all = by_strips a.points.now a.max_points a.predicted.now a.radius_sq c.new-c.ensures.2 np spots (length a.work.now)
-    (rw (s.0, ← c.of-n.ensures.0, s.2, s.3) at n.ensures.0) p.new.c n.new.work p.new.counts p.ensures.1 p.ensures.2
+    (rw (s.0, ← c.of-n.ensures.0, s.2, s.3) at n.ensures.0) p.new.self n.new.work p.new.counts p.ensures.1 p.ensures.2
     (omega (arith, fits, n.auto.work)) c.in-Some.is in
     let left = room_again a.points.now a.max_points a.predicted.now a.radius_sq np spots a.work.now fits
     (rw (s.0, ← c.of-n.ensures.0) at n.ensures.1) p.ensures.2.places in
@@ -46,7 +46,7 @@ returns-in-Some c =
     let fits : 2 * np + needed a.points.now a.max_points a.predicted.now ≤ length a.work.now =
     rw (← spots, ← s.2, ← c.of-n.ensures.1, ← c.places.ensures) c.if-work-room.false in
     let all = by_strips a.points.now a.max_points a.predicted.now a.radius_sq k.2 np spots (length a.work.now)
-    (rw (s.0, ← c.of-n.ensures.0, s.2, s.3) at n.ensures.0) p.new.c n.new.work p.new.counts p.ensures.1 p.ensures.2
+    (rw (s.0, ← c.of-n.ensures.0, s.2, s.3) at n.ensures.0) p.new.self n.new.work p.new.counts p.ensures.1 p.ensures.2
     (omega (arith, fits, n.auto.work)) c.in-Some.is in
     let left = room_again a.points.now a.max_points a.predicted.now a.radius_sq np spots a.work.now fits
     (rw (s.0, ← c.of-n.ensures.0) at n.ensures.1) p.ensures.2.places in
