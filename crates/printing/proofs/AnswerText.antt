@@ -5,7 +5,7 @@ use mathlib.Core.List.{List}
 use Prim.Native.Nat.{ℕ, zero, suc, ◌<◌}
 use native.Mathlib.Omega.{arith}
 use borrow.Author.Tests.{lt-ltb}
-use Rattle.std.specs.Prelude.{Ok, Err}
+use Rattle.std.specs.Prelude.{ltb, Ok, Err}
 use Rattle.refusal.specs.declared.Refusal.{Refusal}
 use Rattle.refusal.specs.Number.{number_of}
 use Rattle.refusal.proofs.Passing.{has_number}
@@ -25,3 +25,8 @@ answer_refused x ms =
 pub answer_accepted : (r : WcsRefineResult) (ms : List ℕ) → accepted_text (numbered 0 r) ms ≡ answer_text (handed (Ok r)) ms
 unfolding answer_text handed
 answer_accepted r ms = refl
+
+pub answer_numbered : (n : ℕ) (r : WcsRefineResult) (ms : List ℕ)
+    → answer_text (numbered n r) ms ≡ cond (ltb 0 n) (refused_text n) (accepted_text (numbered 0 r) ms)
+unfolding answer_text accepted_text
+answer_numbered n r ms = refl

@@ -33,6 +33,24 @@ pub fn print_answer(
     }
 }
 
+// The same of the values of an answer and any number beside them: where it is not 0, the text is that of a refusal.
+#[tactic(auto, using(crate::proofs::AnswerText::answer_numbered))]
+pub fn print_numbered(
+    number: usize,
+    r: &WcsRefineResult,
+    matches: &[usize],
+    out: &mut [u8],
+) -> usize
+    ensures value { result ≡ min (length (answer_text (numbered number r.now) matches.now)) (length out.old) }
+    ensures out_after { out.new ≡ set_from 0 (answer_text (numbered number r.now) matches.now) out.old }
+{
+    if 0 < number {
+        print_refusal(number, out)
+    } else {
+        print_accepted(r, matches, out)
+    }
+}
+
 #[tactic(auto, using(crate::proofs::Pushes::laid_from))]
 fn print_accepted(r: &WcsRefineResult, matches: &[usize], out: &mut [u8]) -> usize
     ensures value { result ≡ min (length (accepted_text (numbered 0 r.now) matches.now)) (length out.old) }
