@@ -55,7 +55,8 @@ fn every_form<'e>(q: Question<'_>, e: &'e [usize]) -> Option<&'e [usize]> {
     }
 }
 
-// Scanning has no capacity to exceed, and makes no comparisons: those of the answer stand in for its own.
+// Scanning has no capacity to exceed, and makes no comparisons: where listing exceeds its own, that is the answer, and its comparisons stand in for
+// those of scanning.
 fn scanned<'e>(
     q: Question<'_>,
     spots: usize,
@@ -67,11 +68,19 @@ fn scanned<'e>(
     if !q.before.is_empty() {
         return Some(plain);
     }
-    let told = e.len() - plain.len().min(e.len());
-    let comparisons = *e[..told].last()?;
-    let form = |points: &[f64], limit: usize, predicted: &[f64], radius_sq: f64, _distances: &mut [f64], _indices: &mut [usize], work: &mut [usize]| Matching {
-        matched: greedy_unique_matches_by_scanning(points, limit, predicted, radius_sq, work),
-        comparisons,
+    let form = |points: &[f64], limit: usize, predicted: &[f64], radius_sq: f64, distances: &mut [f64], indices: &mut [usize], work: &mut [usize]| {
+        let listed = greedy_unique_matches(
+            points, limit, predicted, radius_sq, distances, indices, work,
+        );
+        match listed.matched {
+            Ok(_) => Matching {
+                matched: greedy_unique_matches_by_scanning(
+                    points, limit, predicted, radius_sq, work,
+                ),
+                ..listed
+            },
+            Err(_) => listed,
+        }
     };
     formed(q, form, spots, e)
 }
@@ -90,7 +99,7 @@ where
     let a = question.numbers;
     let s = count_at(a, 2);
     let q = count_at(a, 3 + 2 * s);
-    let predictions = a.get(4 + 2 * s..)?.as_chunks::<3>().0;
+    let predictions = a.get(4 + 2 * s..).unwrap_or(&[]);
     let spots: [f64; 64] = list(a, 3);
     // The points of predictions, x and y behind each direction.
     let points: [f64; 64] = array::from_fn(|i| at(
@@ -112,20 +121,20 @@ where
     report(m, question.before, &work[places + q..], predictions, e)
 }
 
-// Each match with the direction of its prediction.
+// Each match with the direction of its prediction, of three numbers of the line the first.
 fn report<'e>(
     m: Matching,
     before: &[usize],
     work: &[usize],
-    predictions: &[[usize; 3]],
+    predictions: &[usize],
     e: &'e [usize],
 ) -> Option<&'e [usize]> {
     let rest = match m.matched {
         Ok(k) => {
             let mut rest = (before, k).held(e)?;
             for [spot, prediction] in work.as_chunks::<2>().0.iter().take(k) {
-                let [direction, _, _] = predictions.get(*prediction)?;
-                rest = (*spot, *direction).held(rest)?;
+                let direction: usize = at(predictions, prediction.saturating_mul(3));
+                rest = (*spot, direction).held(rest)?;
             }
             rest
         }

@@ -41,8 +41,10 @@ fn mad_clip_matches<'e>(a: &[usize], e: &'e [usize]) -> Option<&'e [usize]> {
     let m = 2 * count_at(a, 1 + 2 * r);
     let to = 2 + 2 * r;
     let mut marked = [NO_RESIDUAL; 32];
-    for [i, residual] in residuals_of(a).iter().take(r) {
-        *marked.get_mut(*i)? = Word::of(*residual);
+    for i in 0..r {
+        if let Some(x) = marked.get_mut(at::<usize>(a, 1 + 2 * i)) {
+            *x = at(a, 2 + 2 * i);
+        }
     }
     let mut matches: [usize; 64] = list(a, to);
     let kept = residuals::mad_clip_matches(
