@@ -1,12 +1,13 @@
 // The entries of a file.
-ghost use Rattle.std.specs.Prelude.{◌<◌, ◌≤◌, length};
+ghost use Rattle.std.specs.Prelude.{◌≡◌, ◌+◌, ◌-◌, ◌<◌, ◌≤◌, length};
 
 use crate::trial;
 use streams::Tally;
 
 // A length in four bytes, low byte first, and so many bytes: those, and what follows them. A file that ends before has no more of either.
 fn part(bytes: &[u8]) -> (&[u8], &[u8])
-    ensures { (length result.1.now ≤ length bytes.now)
+    ensures whole { length result.0.now + length result.1.now ≡ length bytes.now - 4 }
+    ensures on { (length result.1.now ≤ length bytes.now)
         × (0 < length bytes.now → length result.1.now < length bytes.now) }
 {
     match bytes.split_first_chunk::<4>() {

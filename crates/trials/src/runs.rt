@@ -33,7 +33,8 @@ pub(crate) fn turns(rt: &HostRuntime) {
     turned(rt, "theta below -1024", 1.0, past, 0.125);
 }
 
-// Two spots, both within the radius of both directions: four pairs, with so many places for their distances and their indices.
+// Two spots, both within the radius of both directions: four pairs, with so many places for their distances and their indices. The other lists are as
+// short as they may be.
 fn four_pairs<'a>(distances: usize, indices: usize, matcher: Matcher) -> Call<'a> {
     Call {
         spots: &[1.0, 0.0, 1.0, -1.0, 0.0, 1.0],
@@ -41,8 +42,11 @@ fn four_pairs<'a>(distances: usize, indices: usize, matcher: Matcher) -> Call<'a
         directions: &[1.0, 0.001, 0.0, 1.0, -0.001, 0.0],
         limit: 2,
         matcher,
+        numbers: 64,
+        floats: 64,
         distances,
         indices,
+        result: 4,
         ..ahead()
     }
 }
