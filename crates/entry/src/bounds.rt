@@ -91,6 +91,12 @@ impl Bounded for Scale {
 #[derive(Clone, Copy)]
 pub struct Radius(pub f32);
 
+impl Radius {
+    pub const LEAST: f32 = 0.000000000931322574615478515625;
+
+    pub const MOST: f32 = 1.0;
+}
+
 impl Bounded for Radius {
     ghost LEAST = { least };
 
@@ -171,6 +177,12 @@ impl Bounded for Weight {
 #[derive(Clone, Copy)]
 pub struct Component(pub f32);
 
+impl Component {
+    pub const LEAST: f32 = -2.0;
+
+    pub const MOST: f32 = 2.0;
+}
+
 impl Bounded for Component {
     ghost LEAST = { neg long_component };
 
@@ -184,5 +196,12 @@ impl Bounded for Component {
 
     fn value(&self) -> f64 {
         widen(self.0)
+    }
+
+    // Stays (speed): each component of each direction is asked, and widened first by the default method a check of 65,536 directions took 1.4 times the
+    // instructions.
+    fn is_lawful(&self) -> bool {
+        let x = self.0;
+        Component::LEAST <= x && x <= Component::MOST
     }
 }
